@@ -1,0 +1,4 @@
+pub mod Lists
+pub mod Fractions
+pub mod Delay
+pub mod Joining
