@@ -34,8 +34,14 @@ pub impl Account for Mass as MassAccount {
         let tenths = amount.0.saturating_add(self.rest as u128);
         let grams = self.grams as u128 + tenths / GRAM;
         if grams > u64::MAX as u128 {
-            return Mass { grams: u64::MAX, rest: 9_999_999 };
+            return Mass {
+                grams: u64::MAX,
+                rest: 9_999_999,
+            };
         }
-        Mass { grams: grams as u64, rest: (tenths % GRAM) as u32 }
+        Mass {
+            grams: grams as u64,
+            rest: (tenths % GRAM) as u32,
+        }
     }
 }

@@ -23,7 +23,8 @@ lag-meaning = record {
   keeps = λ s c v f r. let h : 1 ≤ length c = omega arith in length-moved c v h ∙ f .1;
   balance = λ s c v f r. let h : 1 ≤ length c = omega arith in held-moved c v h;
   more = λ s c d v w f g r q h k.
-    (at-most-first c d h, at-most-++ (drop 1 c) (drop 1 d) (v ∷ []) (w ∷ []) (at-most-drop 1 c d h) (k, tt)) }
+      (at-most-first c d h, at-most-++ (drop 1 c) (drop 1 d) (v ∷ []) (w ∷ []) (at-most-drop 1 c d h) (k, tt));
+}
 
 -- the first n of an array that is turned by one, with v put into the last of them
 turned : {A : Type 0} (n : ℕ) (c : List A) (v : A) → 1 ≤ n → n ≤ length c →

@@ -39,8 +39,9 @@ pub linear-meaning : Meaning linear
 linear-meaning = record {
   keeps = λ s c v f r. refl;
   balance = λ s c v f r.
-    let x = kept-at-most (setting 0 s) (setting 1 s) (getD c 0 0) v (f .0 .0) (f .0 .1) in
-    let y = held-one c (f .1) in omega arith;
+      let x = kept-at-most (setting 0 s) (setting 1 s) (getD c 0 0) v (f .0 .0) (f .0 .1) in
+      let y = held-one c (f .1) in omega arith;
   more = λ s c d v w f g r q h k.
-    let x = kept-more (setting 0 s) (setting 1 s) (getD c 0 0) (getD d 0 0) v w (f .0 .0) (f .0 .1) (at-most-first c d h) k in
-    (x .0, (x .1, tt)) }
+      let x = kept-more (setting 0 s) (setting 1 s) (getD c 0 0) (getD d 0 0) v w (f .0 .0) (f .0 .1) (at-most-first c d h) k in
+      (x .0, (x .1, tt));
+}

@@ -32,27 +32,30 @@ parts m n mm s c v f r =
 pub series-meaning : (m n : Make) → Meaning m → Meaning n → Meaning (series m n)
 series-meaning m n mm mn = record {
   keeps = λ s c v f r.
-    let p = parts m n mm s c v f r in
-    let a = take (m .size (of-first s)) c in
-    let b = drop (m .size (of-first s)) c in
-    let x = mm .keeps (of-first s) a v (p .first) (p .room) in
-    let y = mn .keeps (of-second s) b (m .gives (of-first s) a v) (p .second) (p .passes) in
-    let z = length-append (m .leaves (of-first s) a v) (n .leaves (of-second s) b (m .gives (of-first s) a v)) in omega arith;
+      let p = parts m n mm s c v f r in
+      let a = take (m .size (of-first s)) c in
+      let b = drop (m .size (of-first s)) c in
+      let x = mm .keeps (of-first s) a v (p .first) (p .room) in
+      let y = mn .keeps (of-second s) b (m .gives (of-first s) a v) (p .second) (p .passes) in
+      let z = length-append (m .leaves (of-first s) a v) (n .leaves (of-second s) b (m .gives (of-first s) a v)) in omega arith;
   balance = λ s c v f r.
-    let p = parts m n mm s c v f r in
-    let a = take (m .size (of-first s)) c in
-    let b = drop (m .size (of-first s)) c in
-    let x = mm .balance (of-first s) a v (p .first) (p .room) in
-    let y = mn .balance (of-second s) b (m .gives (of-first s) a v) (p .second) (p .passes) in
-    let t = held-split (m .size (of-first s)) c in
-    let z = held-++ (m .leaves (of-first s) a v) (n .leaves (of-second s) b (m .gives (of-first s) a v)) in omega arith;
+      let p = parts m n mm s c v f r in
+      let a = take (m .size (of-first s)) c in
+      let b = drop (m .size (of-first s)) c in
+      let x = mm .balance (of-first s) a v (p .first) (p .room) in
+      let y = mn .balance (of-second s) b (m .gives (of-first s) a v) (p .second) (p .passes) in
+      let t = held-split (m .size (of-first s)) c in
+      let z = held-++ (m .leaves (of-first s) a v) (n .leaves (of-second s) b (m .gives (of-first s) a v)) in omega arith;
   more = λ s c d v w f g r q h k.
-    let p = parts m n mm s c v f r in
-    let o = parts m n mm s d w g q in
-    let i = m .size (of-first s) in
-    let x = mm .more (of-first s) (take i c) (take i d) v w (p .first) (o .first) (p .room) (o .room) (at-most-take i c d h) k in
-    let y = mn .more (of-second s) (drop i c) (drop i d) (m .gives (of-first s) (take i c) v) (m .gives (of-first s) (take i d) w)
-      (p .second) (o .second) (p .passes) (o .passes) (at-most-drop i c d h) (x .0) in
-    (y .0, at-most-++ (m .leaves (of-first s) (take i c) v) (m .leaves (of-first s) (take i d) w)
-       (n .leaves (of-second s) (drop i c) (m .gives (of-first s) (take i c) v))
-       (n .leaves (of-second s) (drop i d) (m .gives (of-first s) (take i d) w)) (x .1) (y .1)) }
+      let p = parts m n mm s c v f r in
+      let o = parts m n mm s d w g q in
+      let i = m .size (of-first s) in
+      let x = mm .more (of-first s) (take i c) (take i d) v w (p .first) (o .first) (p .room) (o .room) (at-most-take i c d h) k in
+      let y = mn .more (of-second s) (drop i c) (drop i d) (m .gives (of-first s) (take i c) v) (m .gives (of-first s) (take i d) w)
+      (p .second) (o .second) (p .passes) (o .passes) (at-most-drop i c d h) (x .0) in (
+        y .0,
+        at-most-++ (m .leaves (of-first s) (take i c) v) (m .leaves (of-first s) (take i d) w)
+            (n .leaves (of-second s) (drop i c) (m .gives (of-first s) (take i c) v))
+            (n .leaves (of-second s) (drop i d) (m .gives (of-first s) (take i d) w)) (x .1) (y .1),
+      );
+}

@@ -37,7 +37,8 @@ linear = record {
   Valid = λ s. (setting 0 s ≤ setting 1 s) × (setting 1 s ≤ 65535);
   size = λ s. 1;
   gives = λ s c v. (getD c 0 0 + v) - kept (setting 0 s) (setting 1 s) (getD c 0 0) v;
-  leaves = λ s c v. kept (setting 0 s) (setting 1 s) (getD c 0 0) v ∷ [] }
+  leaves = λ s c v. kept (setting 0 s) (setting 1 s) (getD c 0 0) v ∷ [];
+}
 
 -- Lag: one setting n, n cells, oldest first. The oldest is given, the others move on, the volume is the newest.
 abbrev pub lag : Make
@@ -45,7 +46,8 @@ lag = record {
   Valid = λ s. (1 ≤ setting 0 s) × (setting 0 s ≤ 12);
   size = λ s. setting 0 s;
   gives = λ s c v. getD c 0 0;
-  leaves = λ s c v. drop 1 c ++ (v ∷ []) }
+  leaves = λ s c v. drop 1 c ++ (v ∷ []);
+}
 
 -- Series: the cells of the first, then of the second; what the first gives, the second takes.
 abbrev pub series : Make → Make → Make
@@ -53,6 +55,7 @@ series m n = record {
   Valid = λ s. m .Valid (of-first s) × n .Valid (of-second s);
   size = λ s. m .size (of-first s) + n .size (of-second s);
   gives = λ s c v.
-    n .gives (of-second s) (drop (m .size (of-first s)) c) (m .gives (of-first s) (take (m .size (of-first s)) c) v);
+      n .gives (of-second s) (drop (m .size (of-first s)) c) (m .gives (of-first s) (take (m .size (of-first s)) c) v);
   leaves = λ s c v. m .leaves (of-first s) (take (m .size (of-first s)) c) v
-    ++ n .leaves (of-second s) (drop (m .size (of-first s)) c) (m .gives (of-first s) (take (m .size (of-first s)) c) v) }
+      ++ n .leaves (of-second s) (drop (m .size (of-first s)) c) (m .gives (of-first s) (take (m .size (of-first s)) c) v);
+}

@@ -31,12 +31,12 @@ Accepts cells volume = held cells + volume ≤ capacity
 pub record Meaning (make : Make) : Type 0 where
   -- a taking leaves as many cells
   pub keeps : (s : Settings) (c : List ℕ) (v : ℕ) → Fits make s c → Accepts c v →
-    length (make .leaves s c v) ≡ make .size s
+      length (make .leaves s c v) ≡ make .size s
   -- what is held afterwards, and what is given, is what was held and what was taken
   pub balance : (s : Settings) (c : List ℕ) (v : ℕ) → Fits make s c → Accepts c v →
-    held (make .leaves s c v) + make .gives s c v ≡ held c + v
+      held (make .leaves s c v) + make .gives s c v ≡ held c + v
   -- the law of more: from cells that hold at least as much, at least as much taken gives at least as much
   -- and leaves cells that hold at least as much
   pub more : (s : Settings) (c d : List ℕ) (v w : ℕ) → Fits make s c → Fits make s d → Accepts c v → Accepts d w →
-    AtMost c d → v ≤ w →
-    (make .gives s c v ≤ make .gives s d w) × AtMost (make .leaves s c v) (make .leaves s d w)
+      AtMost c d → v ≤ w →
+      (make .gives s c v ≤ make .gives s d w) × AtMost (make .leaves s c v) (make .leaves s d w)

@@ -31,7 +31,10 @@ impl Lag {
         if n < 1 || n > MOST {
             return Err(Fault::InvalidSettings);
         }
-        Ok(Lag { cells: [Centilitres(0); 12], n })
+        Ok(Lag {
+            cells: [Centilitres(0); 12],
+            n,
+        })
     }
 }
 

@@ -31,7 +31,11 @@ impl Linear {
         if recession > retention || retention >= ONE {
             return Err(Fault::InvalidSettings);
         }
-        Ok(Linear { recession, retention, storage: Centilitres(0) })
+        Ok(Linear {
+            recession,
+            retention,
+            storage: Centilitres(0),
+        })
     }
 }
 

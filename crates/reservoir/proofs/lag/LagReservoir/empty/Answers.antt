@@ -14,4 +14,5 @@ returns c =
     record {
       same-settings = refl;
       all-zero = cleared (c .args .self .now .n) (c .args .self .now .used .1)
-        ∙ ap (λ n. replicate n 0) (sym (length-used (c .args .self .now .n) (c .args .self .now .cells) h)) }
+          ∙ ap (λ n. replicate n 0) (sym (length-used (c .args .self .now .n) (c .args .self .now .cells) h));
+    }

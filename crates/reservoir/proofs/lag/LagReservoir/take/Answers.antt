@@ -17,6 +17,11 @@ returns c =
     let h : c .args .self .now .n ≤ length (c .args .self .now .cells) = omega arith in
     record {
       same-settings = refl;
-      answer = (c .in-Continue-offer .ensures tt,
-        (oldest (c .args .self .now .n) (c .args .self .now .cells) (record { 0 = 0 }) (c .args .self .now .used .0) h,
-         moved (c .args .self .now .n) (c .args .self .now .cells) (c .rotate-left .last .self) (c .args .volume) (c .args .self .now .used .0) h (c .rotate-left .ensures .after))) }
+      answer = (
+        c .in-Continue-offer .ensures tt,
+        (
+          oldest (c .args .self .now .n) (c .args .self .now .cells) (record { 0 = 0 }) (c .args .self .now .used .0) h,
+          moved (c .args .self .now .n) (c .args .self .now .cells) (c .rotate-left .last .self) (c .args .volume) (c .args .self .now .used .0) h (c .rotate-left .ensures .after),
+        ),
+      );
+    }
