@@ -1,0 +1,61 @@
+-- The kinds of worked figures, and what it means that a figure holds of the engine's rules.
+use mathlib.Core.Path.{_≡_}
+use mathlib.Core.List.{List, [], _∷_}
+use Prim.Native.Nat.{ℕ, _<_}
+use Rattle.quantity.specs.Amounts.{load-of, gram, tenths-of}
+use Rattle.quantity.specs.declared.water.Centilitres.{Centilitres}
+use Rattle.reservoir.specs.Cells.{held}
+use Rattle.reservoir.specs.Makes.{linear, lag, series, fractions, steps}
+use Rattle.reservoir.specs.Meaning.{Settings, joined, Make}
+use Rattle.reservoir.specs.declared.fault.Fault.{Fault}
+use Rattle.routing.specs.Runs.{Taking, Run, empty, end-of}
+use Rattle.std.specs.declared.result.Result.{Result}
+use Rattle.std.specs.declared.result.Result.the-variants.{Ok, Err}
+
+-- a reservoir by its make and settings
+pub data Kind : Type 0 where
+  linear-of : ℕ → ℕ → Kind
+  lag-of : ℕ → Kind
+  series-of : Kind → Kind → Kind
+
+abbrev pub make-of : Kind → Make
+make-of (linear-of a b) = linear
+make-of (lag-of n) = lag
+make-of (series-of k l) = series (make-of k) (make-of l)
+
+abbrev pub settings-of : Kind → Settings
+settings-of (linear-of a b) = fractions a b
+settings-of (lag-of n) = steps n
+settings-of (series-of k l) = joined (settings-of k) (settings-of l)
+
+-- what is seen of a taking: the volume, and what was given or that it was refused
+pub data Seen : Type 0 where
+  gives : ℕ → ℕ → Seen
+  refused : ℕ → Seen
+
+abbrev pub seen : ℕ → Result Centilitres Fault → Seen
+seen volume (Ok given) = gives volume (given .0)
+seen volume (Err fault) = refused volume
+
+abbrev pub seen-in : List Taking → List Seen
+seen-in [] = []
+seen-in (t ∷ ts) = seen (t .volume) (t .answer) ∷ seen-in ts
+
+pub data Figure : Type 0 where
+  -- a reservoir from empty: what is seen of its takings, and what it holds afterwards
+  from-empty : Kind → List Seen → ℕ → Figure
+  -- a volume in centilitres at a concentration in hundredths of a mg/l: the grams and the rest that it carries
+  carries : ℕ → ℕ → ℕ → ℕ → Figure
+
+-- the rules give this figure
+abbrev pub Holds : Figure → Type 0
+Holds (from-empty k os h) =
+  make-of k .Valid (settings-of k)
+  × ((ts : List Taking) × (Run (make-of k) (settings-of k) (empty (make-of k) (settings-of k)) ts
+  × ((seen-in ts ≡ os) × (held (end-of (empty (make-of k) (settings-of k)) ts) ≡ h))))
+Holds (carries volume concentration grams rest) = (load-of volume concentration ≡ tenths-of grams rest) × (rest < gram)
+
+-- the rules give every figure of a table
+abbrev pub AllHold : List Figure → Type 0
+AllHold [] = Unit {0}
+AllHold (f ∷ fs) = Holds f × AllHold fs
