@@ -50,9 +50,9 @@ pub data Figure : Type 0 where
 -- the rules give this figure
 abbrev pub Holds : Figure → Type 0
 Holds (from-empty k os h) =
-  make-of k .Valid (settings-of k)
-  × ((ts : List Taking) × (Run (make-of k) (settings-of k) (empty (make-of k) (settings-of k)) ts
-  × ((seen-in ts ≡ os) × (held (end-of (empty (make-of k) (settings-of k)) ts) ≡ h))))
+    make-of k .Valid (settings-of k)
+    × ((ts : List Taking) × (Run (make-of k) (settings-of k) (empty (make-of k) (settings-of k)) ts
+    × ((seen-in ts ≡ os) × (held (end-of (empty (make-of k) (settings-of k)) ts) ≡ h))))
 Holds (carries volume concentration grams rest) = (load-of volume concentration ≡ tenths-of grams rest) × (rest < gram)
 
 -- the rules give every figure of a table

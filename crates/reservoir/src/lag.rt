@@ -4,7 +4,9 @@ ghost use Prim.Native.Nat.{_≤_};
 ghost use Rattle.reservoir.specs.Answers.{Makes};
 ghost use Rattle.reservoir.specs.Cells.{capacity, held, volumes};
 ghost use Rattle.reservoir.specs.Makes.{lag, steps};
-ghost use lib.ListN.{length, take};
+ghost use Rattle.reservoir.specs.Meaning.{Accepts};
+ghost use lib.ListN.{length, getD, take, drop, replicate};
+ghost use mathlib.Core.List.{[], _∷_, _++_};
 ghost use mathlib.Core.Path.{_≡_};
 use crate::fault::Fault;
 use crate::interface::Reservoir;
@@ -31,10 +33,30 @@ impl Lag {
         if n < 1 || n > MOST {
             return Err(Fault::InvalidSettings);
         }
-        Ok(Lag {
+        Ok(Lag::cleared(n))
+    }
+
+    fn cleared(n: usize) -> Lag
+        requires { ⌜ lag .Valid (steps n) ⌝ }
+        ensures { λ r. ⌜ (r .n ≡ n) × (volumes (take n (r .cells)) ≡ replicate n 0) ⌝ }
+    {
+        Lag {
             cells: [Centilitres(0); 12],
             n,
-        })
+        }
+    }
+
+    // Gives the oldest, moves the others on, and stores a volume as the newest.
+    fn shift(&mut self, volume: Centilitres) -> Centilitres
+        requires { ⌜ Accepts (volumes (take (now self .n) (now self .cells))) (volume .0) ⌝ }
+        ensures same { λ _. ⌜ now (self .exit) .n ≡ now (self .entry) .n ⌝ }
+        ensures gives { λ r. ⌜ r .0 ≡ getD (volumes (take (now (self .entry) .n) (now (self .entry) .cells))) 0 0 ⌝ }
+        ensures leaves { λ _. ⌜ volumes (take (now (self .exit) .n) (now (self .exit) .cells)) ≡ drop 1 (volumes (take (now (self .entry) .n) (now (self .entry) .cells))) ++ volume .0 ∷ [] ⌝ }
+    {
+        let oldest = self.cells[0];
+        self.cells.rotate_left(1);
+        self.cells[self.n - 1] = volume;
+        oldest
     }
 }
 
@@ -55,13 +77,10 @@ pub impl Reservoir for Lag as LagReservoir {
 
     fn take(&mut self, volume: Centilitres) -> Result<Centilitres, Fault> {
         self.offer(volume)?;
-        let oldest = self.cells[0];
-        self.cells.rotate_left(1);
-        self.cells[self.n - 1] = volume;
-        Ok(oldest)
+        Ok(self.shift(volume))
     }
 
     fn empty(&mut self) {
-        self.cells = [Centilitres(0); 12];
+        *self = Lag::cleared(self.n);
     }
 }

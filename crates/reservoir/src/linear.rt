@@ -3,8 +3,10 @@
 ghost use Prim.Native.Nat.{_≤_};
 ghost use Rattle.reservoir.specs.Answers.{Makes};
 ghost use Rattle.reservoir.specs.Cells.{capacity};
-ghost use Rattle.reservoir.specs.Makes.{linear, fractions};
+ghost use Rattle.reservoir.specs.Makes.{linear, fractions, kept};
+ghost use Rattle.reservoir.specs.Meaning.{Accepts};
 ghost use mathlib.Core.List.{[], _∷_};
+ghost use mathlib.Core.Path.{_≡_};
 use crate::fault::Fault;
 use crate::interface::Reservoir;
 use quantity::water::Centilitres;
@@ -37,6 +39,14 @@ impl Linear {
             storage: Centilitres(0),
         })
     }
+
+    // What is left of the storage and of a volume at the end of a step.
+    fn kept(&self, volume: Centilitres) -> u64
+        requires { ⌜ Accepts (now self .storage .0 ∷ []) (volume .0) ⌝ }
+        ensures { λ r. ⌜ r ≡ kept (now (self .entry) .recession) (now (self .entry) .retention) (now (self .entry) .storage .0) (volume .0) ⌝ }
+    {
+        (self.recession * self.storage.0 + self.retention * volume.0) / ONE
+    }
 }
 
 pub impl Reservoir for Linear as LinearReservoir {
@@ -53,7 +63,7 @@ pub impl Reservoir for Linear as LinearReservoir {
     fn take(&mut self, volume: Centilitres) -> Result<Centilitres, Fault> {
         self.offer(volume)?;
         let all = self.storage.0 + volume.0;
-        let kept = (self.recession * self.storage.0 + self.retention * volume.0) / ONE;
+        let kept = self.kept(volume);
         self.storage = Centilitres(kept);
         Ok(Centilitres(all - kept))
     }

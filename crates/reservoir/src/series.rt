@@ -1,8 +1,9 @@
 // Two reservoirs of any makes in series: what the first gives, the second takes in the same step.
 
+ghost use Rattle.reservoir.specs.Answers.{Takes};
 ghost use Rattle.reservoir.specs.Cells.{emptied};
 ghost use Rattle.reservoir.specs.Makes.{series};
-ghost use Rattle.reservoir.specs.Meaning.{joined};
+ghost use Rattle.reservoir.specs.Meaning.{Accepts, joined};
 ghost use mathlib.Core.List.{_++_};
 ghost use mathlib.Core.Path.{_≡_};
 use crate::fault::Fault;
@@ -28,6 +29,17 @@ impl<F: Reservoir, S: Reservoir> Series<F, S> {
         both.second.empty();
         both
     }
+
+    // Takes a volume that there is room for.
+    fn pass(&mut self, volume: Centilitres) -> Result<Centilitres, Fault>
+        requires { ⌜ Accepts (F·Reservoir .cells (now self .first) ++ S·Reservoir .cells (now self .second)) (volume .0) ⌝ }
+        ensures same { λ _. ⌜ (F·Reservoir .settings (now (self .exit) .first) ≡ F·Reservoir .settings (now (self .entry) .first)) × (S·Reservoir .settings (now (self .exit) .second) ≡ S·Reservoir .settings (now (self .entry) .second)) ⌝ }
+        ensures answer { λ r. ⌜ Takes (series (F·Reservoir .make) (S·Reservoir .make)) (joined (F·Reservoir .settings (now (self .entry) .first)) (S·Reservoir .settings (now (self .entry) .second))) (F·Reservoir .cells (now (self .entry) .first) ++ S·Reservoir .cells (now (self .entry) .second)) (volume .0) r (F·Reservoir .cells (now (self .exit) .first) ++ S·Reservoir .cells (now (self .exit) .second)) ⌝ }
+    {
+        let between = self.first.take(volume)?;
+        let given = self.second.take(between)?;
+        Ok(given)
+    }
 }
 
 pub impl<F: Reservoir, S: Reservoir> Reservoir for Series<F, S> as SeriesReservoir {
@@ -43,9 +55,7 @@ pub impl<F: Reservoir, S: Reservoir> Reservoir for Series<F, S> as SeriesReservo
 
     fn take(&mut self, volume: Centilitres) -> Result<Centilitres, Fault> {
         self.offer(volume)?;
-        let between = self.first.take(volume)?;
-        let given = self.second.take(between)?;
-        Ok(given)
+        self.pass(volume)
     }
 
     fn empty(&mut self) {

@@ -58,10 +58,15 @@ no-less-over : (m : Make) → Meaning m → (s : Settings) (c d : List ℕ) (ps 
 no-less-over m mm s c d [] x y o r = tt
 no-less-over m mm s c d (p ∷ ps) x y o r =
     let l = pair-after m mm s c d (p .first .after) (p .second .after) (p .first .volume) (p .second .volume)
-      (p .first .answer) (p .second .answer) x y o (r .0) (r .1 .0) (r .1 .1 .0) (r .1 .1 .1 .0) in
-    (l .0, (l .1, no-less-over m mm s (p .first .after) (p .second .after) ps
-      (fits-after m mm s c (p .first .after) (p .first .volume) (p .first .answer) x (r .0))
-      (fits-after m mm s d (p .second .after) (p .second .volume) (p .second .answer) y (r .1 .0)) (l .1) (r .1 .1 .1 .1)))
+    (p .first .answer) (p .second .answer) x y o (r .0) (r .1 .0) (r .1 .1 .0) (r .1 .1 .1 .0) in (
+      l .0,
+      (
+        l .1,
+        no-less-over m mm s (p .first .after) (p .second .after) ps
+            (fits-after m mm s c (p .first .after) (p .first .volume) (p .first .answer) x (r .0))
+            (fits-after m mm s d (p .second .after) (p .second .volume) (p .second .answer) y (r .1 .0)) (l .1) (r .1 .1 .1 .1),
+      ),
+    )
 
 at-most-zeros : (n : ℕ) → AtMost (replicate n 0) (replicate n 0)
 at-most-zeros zero = tt

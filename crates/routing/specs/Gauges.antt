@@ -24,7 +24,8 @@ gauge settings cells g = record {
   settings = settings (g .reservoir);
   cells = cells (g .reservoir);
   taken = g .taken .0;
-  given = g .given .0 }
+  given = g .given .0;
+}
 
 -- the largest total, and a total after one more amount
 abbrev pub largest : ℕ
@@ -40,17 +41,18 @@ Balanced g = g .taken ≡ g .given + held (g .cells)
 -- a volume passed through: what the reservoir gives and then holds, and the gauge that it leaves
 abbrev pub Passes : Make → Gauge → ℕ → Passage → Gauge → Type 0
 Passes make before volume p after =
-  Accepts (before .cells) volume
-  × ((p .gives .0 ≡ make .gives (before .settings) (before .cells) volume)
-  × ((p .holds .0 ≡ held (after .cells))
-  × (after ≡ record {
-    settings = before .settings;
-    cells = make .leaves (before .settings) (before .cells) volume;
-    taken = counted (before .taken) volume;
-    given = counted (before .given) (p .gives .0) })))
+    Accepts (before .cells) volume
+    × ((p .gives .0 ≡ make .gives (before .settings) (before .cells) volume)
+    × ((p .holds .0 ≡ held (after .cells))
+    × (after ≡ record {
+      settings = before .settings;
+      cells = make .leaves (before .settings) (before .cells) volume;
+      taken = counted (before .taken) volume;
+      given = counted (before .given) (p .gives .0);
+    })))
 
 -- a taking: the volume is passed through, or refused for want of room and nothing is changed
 abbrev pub Routes : Make → Gauge → ℕ → Result Passage Fault → Gauge → Type 0
 Routes make before volume (Ok p) after = Passes make before volume p after
 Routes make before volume (Err fault) after =
-  (capacity < held (before .cells) + volume) × (Full fault × (after ≡ before))
+    (capacity < held (before .cells) + volume) × (Full fault × (after ≡ before))

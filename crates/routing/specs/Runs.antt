@@ -53,4 +53,4 @@ end-of c (t ∷ ts) = end-of (t .after) ts
 -- everything taken is everything given and what is held.
 abbrev pub RunsBalance : Make → Type 0
 RunsBalance make = (s : Settings) (ts : List Taking) → make .Valid s → Run make s (empty make s) ts →
-  taken-in ts ≡ given-in ts + held (end-of (empty make s) ts)
+    taken-in ts ≡ given-in ts + held (end-of (empty make s) ts)

@@ -38,7 +38,11 @@ impl<R: Reservoir> Gauged<R> {
         ensures runs_balance { λ _. ⌜ RunsBalance (R·Reservoir .make) ⌝ }
         ensures more_gives_no_less { λ _. ⌜ MoreGivesNoLess (R·Reservoir .make) ⌝ }
     {
-        let mut gauged = Gauged { reservoir, taken: Total::zero(), given: Total::zero() };
+        let mut gauged = Gauged {
+            reservoir,
+            taken: Total::zero(),
+            given: Total::zero(),
+        };
         gauged.reservoir.empty();
         gauged
     }
@@ -51,6 +55,9 @@ impl<R: Reservoir> Gauged<R> {
         let gives = self.reservoir.take(volume)?;
         self.taken = self.taken.plus(volume);
         self.given = self.given.plus(gives);
-        Ok(Passage { gives, holds: self.reservoir.content() })
+        Ok(Passage {
+            gives,
+            holds: self.reservoir.content(),
+        })
     }
 }

@@ -50,12 +50,12 @@ impl<F: Reservoir, S: Reservoir, T: Reservoir> SideBySide<F, S, T> {
     pub fn step(&mut self, volume: Centilitres) -> Result<Step, NoRoom>
         ensures { λ r. ⌜ Cases r
             (λ step.
-                Passes (F·Reservoir .make) (gauge (F·Reservoir .settings) (F·Reservoir .cells) (now (self .entry) .first)) (volume .0) (step .first) (gauge (F·Reservoir .settings) (F·Reservoir .cells) (now (self .exit) .first))
-                × (Passes (S·Reservoir .make) (gauge (S·Reservoir .settings) (S·Reservoir .cells) (now (self .entry) .second)) (volume .0) (step .second) (gauge (S·Reservoir .settings) (S·Reservoir .cells) (now (self .exit) .second))
-                × Passes (T·Reservoir .make) (gauge (T·Reservoir .settings) (T·Reservoir .cells) (now (self .entry) .third)) (volume .0) (step .third) (gauge (T·Reservoir .settings) (T·Reservoir .cells) (now (self .exit) .third))))
+            Passes (F·Reservoir .make) (gauge (F·Reservoir .settings) (F·Reservoir .cells) (now (self .entry) .first)) (volume .0) (step .first) (gauge (F·Reservoir .settings) (F·Reservoir .cells) (now (self .exit) .first))
+            × (Passes (S·Reservoir .make) (gauge (S·Reservoir .settings) (S·Reservoir .cells) (now (self .entry) .second)) (volume .0) (step .second) (gauge (S·Reservoir .settings) (S·Reservoir .cells) (now (self .exit) .second))
+            × Passes (T·Reservoir .make) (gauge (T·Reservoir .settings) (T·Reservoir .cells) (now (self .entry) .third)) (volume .0) (step .third) (gauge (T·Reservoir .settings) (T·Reservoir .cells) (now (self .exit) .third))))
             (λ refused. Full (refused .fault)
-                × (FirstFull (refused .position) (F·Reservoir .cells (now (self .entry) .first .reservoir)) (S·Reservoir .cells (now (self .entry) .second .reservoir)) (T·Reservoir .cells (now (self .entry) .third .reservoir)) (volume .0)
-                × (now (self .exit) ≡ now (self .entry)))) ⌝ }
+            × (FirstFull (refused .position) (F·Reservoir .cells (now (self .entry) .first .reservoir)) (S·Reservoir .cells (now (self .entry) .second .reservoir)) (T·Reservoir .cells (now (self .entry) .third .reservoir)) (volume .0)
+            × (now (self .exit) ≡ now (self .entry)))) ⌝ }
     {
         at(self.first.reservoir.offer(volume), Position::First)?;
         at(self.second.reservoir.offer(volume), Position::Second)?;
@@ -63,7 +63,11 @@ impl<F: Reservoir, S: Reservoir, T: Reservoir> SideBySide<F, S, T> {
         let first = at(self.first.take(volume), Position::First)?;
         let second = at(self.second.take(volume), Position::Second)?;
         let third = at(self.third.take(volume), Position::Third)?;
-        Ok(Step { first, second, third })
+        Ok(Step {
+            first,
+            second,
+            third,
+        })
     }
 }
 

@@ -15,4 +15,5 @@ returns g c =
       zero = cc;
       balanced = omega arith;
       runs-balance = runs-balance (g .R·Reservoir .make) (g .R·Reservoir·met .meaning);
-      more-gives-no-less = more-gives-no-less (g .R·Reservoir .make) (g .R·Reservoir·met .meaning) }
+      more-gives-no-less = more-gives-no-less (g .R·Reservoir .make) (g .R·Reservoir·met .meaning);
+    }
