@@ -12,3 +12,6 @@ pub fn worked_figures() -> usize
 {
     7
 }
+
+#[cfg(test)]
+mod tests;
