@@ -1,0 +1,5 @@
+pub mod Limits
+pub mod Seepage
+pub mod Rules
+pub mod Laws
+pub mod Answers
