@@ -1,0 +1,3 @@
+mod Places
+pub mod Carried
+pub mod Laws

@@ -1,0 +1,5 @@
+pub mod Limits
+pub mod Loads
+pub mod Laws
+pub mod Faults
+pub mod Checking
