@@ -1,0 +1,5 @@
+pub mod Stores
+pub mod Rules
+pub mod Laws
+pub mod Faults
+pub mod Answers
