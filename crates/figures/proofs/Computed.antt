@@ -5,13 +5,15 @@ use mathlib.Core.List.{List, [], _∷_}
 use Prim.Native.Nat.{ℕ, _+_, _<_, _≤_}
 use lib.Dec.{leb, ltb, eqb}
 use Rattle.std.proofs.shelf.Tests.{and-parts, leb-true, ltb-true, eqb-true}
+use native.Mathlib.Omega.{arith}
+use Rattle.ground.specs.Rules.{Soaked, soaked}
 use Rattle.quantity.specs.Amounts.{load-of, gram, tenths-of}
 use Rattle.reservoir.specs.Cells.{capacity, held}
 use Rattle.reservoir.specs.Meaning.{Settings, Make}
 use Rattle.reservoir.specs.declared.fault.Fault.the-variants.{OverCapacity}
 use Rattle.routing.specs.Runs.{Taking, Run, empty, end-of}
 use Rattle.std.specs.declared.result.Result.the-variants.{Ok, Err}
-use Rattle.figures.specs.Figures.{Kind, linear-of, lag-of, series-of, make-of, settings-of, Seen, gives, refused, seen, seen-in, Figure, from-empty, carries, Holds, AllHold}
+use Rattle.figures.specs.Figures.{Kind, linear-of, lag-of, series-of, make-of, settings-of, Seen, gives, refused, seen, seen-in, Figure, from-empty, soaks, carries, Holds, AllHold}
 
 abbrev valid : Kind → Bool
 valid (linear-of a b) = leb a b && leb b 65535
@@ -46,14 +48,28 @@ runs-means m s c (refused v ∷ os) h e =
     let t : Taking = record { volume = v; answer = Err OverCapacity; after = c } in
     (t ∷ r .0, (((ltb-true capacity (held c + v) (p .0), (refl, refl)), r .1 .0), (ap (λ xs. refused v ∷ xs) (r .1 .1 .0), r .1 .1 .1)))
 
+-- the same amounts, one by one
+abbrev same : Soaked → Soaked → Bool
+same q r =
+    eqb (q .infiltration) (r .infiltration)
+    && (eqb (q .excess) (r .excess)
+    && (eqb (q .transpiration) (r .transpiration)
+    && (eqb (q .percolation) (r .percolation)
+    && (eqb (q .sinking) (r .sinking) && (eqb (q .moisture) (r .moisture) && eqb (q .depression) (r .depression))))))
+
+same-means : (q r : Soaked) → same q r ≡ true → q ≡ r
+same-means q r e = grind (arith, and-parts, eqb-true)
+
 abbrev passes : Figure → Bool
 passes (from-empty k os h) = valid k && runs (make-of k) (settings-of k) (empty (make-of k) (settings-of k)) os h
+passes (soaks s m b f r) = same (soaked s m b f) r
 passes (carries v c g r) = eqb (load-of v c) (tenths-of g r) && ltb r gram
 
 passes-means : (f : Figure) → passes f ≡ true → Holds f
 passes-means (from-empty k os h) e =
     let p = and-parts (valid k) (runs (make-of k) (settings-of k) (empty (make-of k) (settings-of k)) os h) e in
     (valid-means k (p .0), runs-means (make-of k) (settings-of k) (empty (make-of k) (settings-of k)) os h (p .1))
+passes-means (soaks s m b f r) e = same-means (soaked s m b f) r e
 passes-means (carries v c g r) e =
     let p = and-parts (eqb (load-of v c) (tenths-of g r)) (ltb r gram) e in
     (eqb-true (load-of v c) (tenths-of g r) (p .0), ltb-true r gram (p .1))

@@ -10,7 +10,7 @@ pub fn worked_figures() -> usize
     ensures count { λ r. ⌜ r ≡ length table ⌝ }
     ensures all_hold { λ _. ⌜ AllHold table ⌝ }
 {
-    7
+    9
 }
 
 #[cfg(test)]
