@@ -11,12 +11,14 @@ python3 -m unittest discover -q -s reference
 # the stored expectations are what the reference prints
 cmp storms/cloudburst.txt crates/hydrograph/stdin
 python3 reference/hydrograph.py < storms/cloudburst.txt | cmp - crates/hydrograph/stdout
+python3 reference/node_example.py | cmp - crates/node_example/stdout
 
 # rt's last line is held back until the programs it built have been compared
 log=$(mktemp)
 trap 'rm -f "$log"' EXIT
 rt ci | tee "$log" | sed '$d'
 
+bash refused_by_types.sh
 python3 reference/compare_hydrograph.py target/bin/hydrograph --vast
 
 tail -n 1 "$log"

@@ -10,18 +10,21 @@ CAPACITY = 10**14  # the most any reservoir may hold, in centilitres
 WHOLE = 65_536  # the fractions of a linear reservoir are in 65,536ths
 LONGEST_LAG = 12  # in steps
 
+RESERVOIR_LAYER = 4  # the layer that refuses
+BY_ITSELF = 0  # the place of a reservoir that stands in no node
+
 BAD_SETTINGS = 4  # cause of a refusal: no reservoir has these settings
 TOO_FULL = 5  # cause of a refusal: the reservoir would hold more than CAPACITY
 
 
 class Refusal(Exception):
-    """Says why a reservoir was not made, or did not take its inflow."""
+    """Says why something was not made or not taken, by which layer and at which place."""
 
-    def __init__(self, cause: int) -> None:
-        super().__init__(cause)
+    def __init__(self, cause: int, layer: int, place: int) -> None:
+        super().__init__(cause, layer, place)
         self.cause = cause
-        self.layer = 4
-        self.place = 0
+        self.layer = layer
+        self.place = place
 
 
 class Reservoir:
@@ -43,7 +46,7 @@ class Reservoir:
     def ask(self, inflow: int) -> None:
         """Raises the refusal that taking this inflow would meet; changes nothing."""
         if self.held() + inflow > CAPACITY:
-            raise Refusal(TOO_FULL)
+            raise Refusal(TOO_FULL, RESERVOIR_LAYER, BY_ITSELF)
 
     def take(self, inflow: int) -> int:
         """Takes the inflow and gives the outflow, or refuses and changes nothing."""
@@ -56,7 +59,7 @@ class Linear(Reservoir):
 
     def __init__(self, a: int, b: int) -> None:
         if not a <= b <= WHOLE - 1:
-            raise Refusal(BAD_SETTINGS)
+            raise Refusal(BAD_SETTINGS, RESERVOIR_LAYER, BY_ITSELF)
         self.a = a
         self.b = b
         self.empty()
@@ -78,7 +81,7 @@ class Lag(Reservoir):
 
     def __init__(self, n: int) -> None:
         if not 1 <= n <= LONGEST_LAG:
-            raise Refusal(BAD_SETTINGS)
+            raise Refusal(BAD_SETTINGS, RESERVOIR_LAYER, BY_ITSELF)
         self.n = n
         self.empty()
 
