@@ -27,7 +27,7 @@ use Rattle.reservoir.specs.Meaning.{Make}
 use Rattle.reservoir.proofs.Lists.{held-++, at-most-++}
 use Rattle.node.specs.Stores.{Store, opened, storage}
 use Rattle.node.specs.Rules.{Yielded, Accepted, hard-evaporation, hard-runoff, soaking, inflows, rained, risen, flows-of, yield-of, after}
-use Rattle.node.specs.Laws.{Sound, StepsBalance, Pair, accepted, refused, PairRun, EachStoreAtMost, NoLess, MoreRainGivesNoLess}
+use Rattle.node.specs.Laws.{Sound, StaysSound, StepsBalance, Pair, accepted, refused, PairRun, EachStoreAtMost, NoLess, MoreRainGivesNoLess}
 
 -- Over plain numbers: h is the hard runoff and e the hard evaporation, of which the rain r is made; on the unpaved area u
 -- the ground turns r, m and b into x, t, p, k, n and d; and p over u is parted into q and l.
@@ -154,6 +154,12 @@ each-emptied-fits (m ∷ ms) (s ∷ ss) f = ((f .0 .0, length-replicate (length 
 
 pub opened-sound : (makes : List Make) (c : Card) (ss : List State) → Admissible (c .soil) → EachFits makes ss → Sound makes (opened c ss)
 opened-sound makes c ss s f = record { soil = s; within = (omega arith, omega arith); fits = each-emptied-fits makes ss f }
+
+pub stays-sound : (makes : List Make) → Meanings makes → StaysSound makes
+stays-sound makes mm = record {
+  opens = opened-sound makes;
+  steps = λ n m f y s a. subst (Sound makes) (sym (a .leaves)) (sound-after makes mm n f s (a .room));
+}
 
 pub more-rain-gives-no-less : (makes : List Make) → Meanings makes → MoreRainGivesNoLess makes
 more-rain-gives-no-less makes mm c ss ps s f r =

@@ -19,6 +19,11 @@ pub record Sound (makes : List Make) (n : Store) : Type 0 where
   pub within : Holds (n .card .soil) (n .moisture) (n .depression)
   pub fits : EachFits makes (n .reservoirs)
 
+-- A node is sound when it is opened, and an accepted step leaves it sound.
+pub record StaysSound (makes : List Make) : Type 0 where
+  pub opens : (card : Card) (ss : List State) → Admissible (card .soil) → EachFits makes ss → Sound makes (opened card ss)
+  pub steps : (n m : Store) (f : Forcing) (y : Yielded) → Sound makes n → Accepted makes n f y m → Sound makes m
+
 -- The balance of a step: rain, rising seepage and the storage before are what evaporated, what flows and what sank, and the
 -- storage after.
 abbrev pub StepsBalance : List Make → Type 0

@@ -4,7 +4,7 @@ ghost use Prim.Native.Nat.{_-_, _^_, min};
 ghost use Rattle.card.specs.Checking.{numbers-of};
 ghost use Rattle.ground.specs.Limits.{InRange};
 ghost use Rattle.node.specs.Answers.{Offers, Shows, Steps, store};
-ghost use Rattle.node.specs.Laws.{MoreRainGivesNoLess, StepsBalance};
+ghost use Rattle.node.specs.Laws.{MoreRainGivesNoLess, StaysSound, StepsBalance};
 ghost use Rattle.node.specs.Stores.{opened, storage};
 ghost use Rattle.node.specs.declared.fault.StepFault.the-variants.{OutOfRange};
 ghost use Rattle.std.specs.Results.{Cases};
@@ -30,6 +30,7 @@ impl<P: Places> Node<P> {
     // Opens a node on a card, which is spent, over six reservoirs, which are emptied. Of its makes the laws of nodes hold.
     pub fn open(card: CheckedCard, mut reservoirs: P) -> Self
         ensures opened { λ r. ⌜ store (P·Places .reservoirs) r ≡ opened (numbers-of card) (P·Places .reservoirs reservoirs) ⌝ }
+        ensures stays_sound { λ _. ⌜ StaysSound (P·Places .makes) ⌝ }
         ensures steps_balance { λ _. ⌜ StepsBalance (P·Places .makes) ⌝ }
         ensures more_rain_gives_no_less { λ _. ⌜ MoreRainGivesNoLess (P·Places .makes) ⌝ }
     {
