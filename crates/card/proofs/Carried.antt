@@ -1,5 +1,5 @@
 -- What flows carry at their concentrations, for any lists.
-use mathlib.Core.Path.{_≡_, refl, _∙_, ap}
+use mathlib.Core.Path.{_≡_, refl}
 use mathlib.Core.List.{List, [], _∷_}
 use Prim.Native.Nat.{ℕ, zero, suc, _+_, _*_, _≤_, _<_}
 use native.Mathlib.Nat.{mul-le-mul-left, mul-le-mul-right, mul-add}
@@ -43,7 +43,7 @@ carried-next (x ∷ v) [] i h l = let z : ⊥ = omega arith in elim z [ ]
 carried-next (x ∷ v) (k ∷ c) zero h l = omega arith
 carried-next (x ∷ v) (k ∷ c) (suc i) h l = let others = carried-next v c i (omega arith) (omega arith) in omega arith
 
-pub carried-more : (v c : List ℕ) (i : ℕ) → i < length v → i < length c →
+carried-more : (v c : List ℕ) (i : ℕ) → i < length v → i < length c →
     carried (take (i + 1) v) (take (i + 1) c) ≡ carried (take i v) (take i c) + load-of (getD v i 0) (getD c i 0)
 carried-more v c i h l = rw add-one (carried-next v c i h l)
 

@@ -7,7 +7,7 @@ use lib.ListN.{length, getD}
 use Rattle.std.proofs.shelf.Lists.{getD-past}
 use Rattle.std.proofs.shelf.Tests.{cases-lt}
 
--- what holds at every place of a list, and of the default, holds at any place
+-- what holds of each element of a list, and of a default, holds of what is read at any place
 pub at-any-place : {X : Type 0} (P : X → Type 0) (xs : List X) (d : X) (n : ℕ) → length xs ≤ n → P d →
     ((i : ℕ) → i < n → P (getD xs i d)) → (i : ℕ) → P (getD xs i d)
 at-any-place P xs d n all default h i =

@@ -17,17 +17,14 @@ numbers-of checked = record {
   concentrations = checked .concentrations .numbers;
 }
 
--- a part of a card is at fault
-abbrev pub AtFault : Card → CardFault → Type 0
-AtFault card Areas = AreasWithin (card .areas) → ⊥
-AtFault card Soil = Admissible (card .soil) → ⊥
-AtFault card Concentrations = ConcentrationsWithin (card .concentrations .«by_flow») → ⊥
-
--- the fault is the first of a card, in the order areas, soil, concentrations
+-- the first fault of a card, in the order areas, soil, concentrations
 abbrev pub FirstFault : Card → CardFault → Type 0
-FirstFault card Areas = AtFault card Areas
-FirstFault card Soil = AreasWithin (card .areas) × AtFault card Soil
-FirstFault card Concentrations = AreasWithin (card .areas) × Admissible (card .soil) × AtFault card Concentrations
+FirstFault card Areas = AreasWithin (card .areas) → ⊥
+FirstFault card Soil = AreasWithin (card .areas) × (Admissible (card .soil) → ⊥)
+FirstFault card Concentrations =
+    AreasWithin (card .areas)
+    × Admissible (card .soil)
+    × (ConcentrationsWithin (card .concentrations .«by_flow») → ⊥)
 
 -- Checking: refused with the first fault if there is one; else the numbers are the card's.
 abbrev pub Checks : Card → Result CheckedCard CardFault → Type 0

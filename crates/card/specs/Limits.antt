@@ -6,7 +6,7 @@ use lib.ListN.{length, getD}
 use Rattle.quantity.specs.declared.load.Concentration.{Concentration}
 use Rattle.card.specs.declared.areas.Areas.{Areas}
 
--- the areas that no water soaks into
+-- the open, paved and sewer areas together
 abbrev pub hard-areas : Areas → ℕ
 hard-areas a = a .«open» .0 + a .paved .0 + a .sewer .0
 
@@ -16,7 +16,7 @@ all-areas a = hard-areas a + a .unpaved .0
 abbrev pub largest-area : ℕ
 largest-area = 100000000
 
--- no area by itself is too large
+-- no area by itself is above the limit
 abbrev pub EachAreaWithin : Areas → Type 0
 EachAreaWithin a =
     (a .«open» .0 ≤ largest-area)
@@ -24,7 +24,7 @@ EachAreaWithin a =
     × (a .sewer .0 ≤ largest-area)
     × (a .unpaved .0 ≤ largest-area)
 
--- the areas that a card may have: nor are all together too large, or 0
+-- the areas that a card may have: each within the limit, and all together within it and not 0
 abbrev pub AreasWithin : Areas → Type 0
 AreasWithin a = EachAreaWithin a × (all-areas a ≤ largest-area) × (0 < all-areas a)
 

@@ -1,6 +1,5 @@
 // The areas of a node: as a caller gives them, and once they are checked.
 
-ghost use Prim.Native.Nat.{_≤_};
 ghost use Rattle.card.specs.Limits.{AreasWithin, all-areas, hard-areas};
 ghost use Rattle.std.specs.Options.{Cases as BySome};
 ghost use mathlib.Core.Path.{_≡_};
@@ -8,7 +7,6 @@ use quantity::water::Area;
 
 const LARGEST_AREA: u64 = 100_000_000;
 
-// The open water, the paved area that drains to it, the paved area that drains to a sewer, and the unpaved area.
 #[derive(Clone, Copy)]
 pub struct Areas {
     pub open: Area,
@@ -25,7 +23,7 @@ pub struct CheckedAreas {
 }
 
 impl Areas {
-    // The areas with their numbers checked; none if one is outside its limits. The limit of the sum holds for each.
+    // The areas with their numbers checked; none if one is outside its limits. An area above the limit makes the sum so.
     pub fn check(self) -> Option<CheckedAreas>
         ensures { λ r. ⌜ BySome r (AreasWithin self → ⊥) (λ areas. AreasWithin self × (areas .numbers ≡ self)) ⌝ }
     {
@@ -54,7 +52,7 @@ impl CheckedAreas {
         Area(self.hard().0 + self.numbers.unpaved.0)
     }
 
-    // The areas that no water soaks into: all but the unpaved.
+    // The open, paved and sewer areas together.
     pub fn hard(&self) -> Area
         ensures { λ r. ⌜ r .0 ≡ hard-areas (now (self .entry) .numbers) ⌝ }
     {

@@ -17,7 +17,7 @@ pub struct Card {
     pub concentrations: Concentrations,
 }
 
-// A card whose parts are within their limits. It is got by checking alone, it is no copy, and it is spent once.
+// A card whose parts are within their limits. It is got only by checking, cannot be copied, and is spent once.
 #[derive(Drop)]
 pub struct CheckedCard {
     areas: CheckedAreas,

@@ -15,7 +15,7 @@ use quantity::load::Load;
 use quantity::load::VolumeAtConcentration;
 use quantity::water::Centilitres;
 
-// The load of one flow, of which many fit into a sum.
+// The load of one nutrient in one flow, small enough that many fit into a sum.
 fn flow_load(volume: Centilitres, concentration: Concentration) -> Load
     ensures value { λ r. ⌜ r .0 ≡ load-of (volume .0) (concentration .0) ⌝ }
     ensures fits { λ r. ⌜ r .0 < 2 ^ 96 ⌝ }
@@ -43,8 +43,8 @@ impl CheckedConcentrations {
         ensures { λ r. ⌜ r .0 ≡ nutrient-load (volumes (now (flows .entry))) (now (self .entry) .numbers .«by_flow») nutrient ⌝ }
     {
         let mut sum = 0;
-        for (flow, volume) in flows.iter().enumerate() {
-            sum += flow_load(*volume, self.numbers.by_flow[flow][nutrient]).0;
+        for flow in 0..FLOWS {
+            sum += flow_load(flows[flow], self.numbers.by_flow[flow][nutrient]).0;
         }
         Load(sum)
     }

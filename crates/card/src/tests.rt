@@ -17,13 +17,16 @@ use quantity::water::Depth;
 use std::test::*;
 
 // Areas in the order of the fields, and whether they may be used.
-const AREAS: [([u32; 4], bool); 10] = [
+const AREAS: [([u32; 4], bool); 13] = [
     ([100_000_000, 0, 0, 0], true),
     ([0, 100_000_000, 0, 0], true),
     ([0, 0, 100_000_000, 0], true),
     ([0, 0, 0, 100_000_000], true),
     ([25_000_000, 25_000_000, 25_000_000, 25_000_000], true),
     ([25_000_000, 25_000_001, 25_000_000, 25_000_000], false),
+    ([100_000_001, 0, 0, 0], false),
+    ([0, 100_000_001, 0, 0], false),
+    ([0, 0, 100_000_001, 0], false),
     ([0, 0, 0, 100_000_001], false),
     ([u32::MAX, u32::MAX, u32::MAX, u32::MAX], false),
     ([0, 0, 1, 0], true),

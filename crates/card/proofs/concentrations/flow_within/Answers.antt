@@ -1,4 +1,4 @@
-use mathlib.Core.Path.{_≡_}
+use mathlib.Core.Path.{_≡_, refl}
 use Prim.Native.Nat.{_≤_}
 use native.Mathlib.Omega.{arith}
 use borrow.Author.Needs.{needs}
@@ -14,7 +14,7 @@ returns c =
       decides = (
         λ _. at-any-place (λ k. k .0 ≤ largest-concentration) (c .args .of-flow .now) (record { 0 = 0 }) nutrient-count
             (omega arith) (omega arith) (λ n h. c .loop-concentration .inv n (omega arith)),
-        λ _. search needs,
+        λ _. refl,
       );
       complete = all;
     }

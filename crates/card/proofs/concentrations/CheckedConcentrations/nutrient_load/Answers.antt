@@ -1,10 +1,9 @@
-use mathlib.Core.Path.{_≡_, _∙_, sym, ap}
 use Prim.Native.Nat.{_≤_}
 use native.Mathlib.Omega.{arith}
 use lib.ListN.{length}
 use Rattle.std.proofs.shelf.Lists.{length-map, take-all}
 use Rattle.reservoir.specs.Cells.{volumes}
-use Rattle.card.specs.Loads.{carried, in-each-flow}
+use Rattle.card.specs.Loads.{in-each-flow}
 use Rattle.card.proofs.Carried.{load-more}
 use Rattle.card.proofs.concentrations.CheckedConcentrations.nutrient_load.Needs as need
 
