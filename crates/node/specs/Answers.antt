@@ -16,8 +16,9 @@ use Rattle.reservoir.specs.Meaning.{Make}
 use Rattle.std.specs.declared.result.Result.{Result}
 use Rattle.std.specs.declared.result.Result.the-variants.{Ok, Err}
 use Rattle.node.specs.Stores.{Store, storage}
-use Rattle.node.specs.Rules.{Yielded, Accepted, hard-evaporation, soaking, inflows, risen}
+use Rattle.node.specs.Rules.{Yielded, Accepted, hard-evaporation, soaking, inflows, rained, risen}
 use Rattle.node.specs.declared.answer.Flows.{Flows}
+use Rattle.node.specs.declared.answer.Income.{Income}
 use Rattle.node.specs.declared.answer.View.{View}
 use Rattle.node.specs.declared.answer.Yield.{Yield}
 use Rattle.node.specs.declared.fault.StepFault.{StepFault}
@@ -72,6 +73,11 @@ abbrev pub Steps : List Make → Store → Forcing → Result Yield StepFault �
 Steps makes n f (Ok y) m = Accepted makes n f (yielded y) m
 Steps makes n f (Err OutOfRange) m = (InRange f → ⊥) × (m ≡ n)
 Steps makes n f (Err (Reservoir fault)) m = RefusesAt n f fault × (m ≡ n)
+
+-- what comes in under a forcing
+pub record Brings (n : Store) (f : Forcing) (i : Income) : Type 0 where
+  pub rain : i .rain .0 ≡ rained (n .card) f
+  pub rise : i .rise .0 ≡ risen (n .card) f
 
 -- what looking at a node answers; a content too large for a volume is the largest volume
 pub record Shows (n : Store) (v : View) : Type 0 where

@@ -1,15 +1,16 @@
-// The calls of a node: opening, stepping, looking, and its storage.
+// The calls of a node: opening, stepping, looking, its income and its storage.
 
 ghost use Prim.Native.Nat.{_-_, _^_, min};
 ghost use Rattle.card.specs.Checking.{numbers-of};
 ghost use Rattle.ground.specs.Limits.{InRange};
-ghost use Rattle.node.specs.Answers.{Offers, Shows, Steps, store};
+ghost use Rattle.node.specs.Answers.{Brings, Offers, Shows, Steps, store};
 ghost use Rattle.node.specs.Laws.{MoreRainGivesNoLess, StaysSound, StepsBalance};
 ghost use Rattle.node.specs.Stores.{opened, storage};
 ghost use Rattle.node.specs.declared.fault.StepFault.the-variants.{OutOfRange};
 ghost use Rattle.std.specs.Results.{Cases};
 ghost use mathlib.Core.Path.{_≡_};
 use crate::answer::Flows;
+use crate::answer::Income;
 use crate::answer::View;
 use crate::answer::Yield;
 use crate::fault::StepFault;
@@ -71,6 +72,17 @@ impl<P: Places> Node<P> {
             sunk: plan.sunk,
             loads: self.concentrations.loads(&flows.listed()),
         })
+    }
+
+    // What comes in under a forcing, over all areas.
+    pub fn income(&self, forcing: Forcing) -> Income
+        ensures { λ r. ⌜ Brings (store (P·Places .reservoirs) (now (self .entry))) forcing r ⌝ }
+    {
+        let area = self.areas.total();
+        Income {
+            rain: forcing.rain * area,
+            rise: Depth(forcing.seepage.max(0) as u32) * area,
+        }
     }
 
     // Looks at a node. Nothing is changed.
