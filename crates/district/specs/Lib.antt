@@ -1,0 +1,5 @@
+pub mod Faults
+pub mod Books
+pub mod Links
+pub mod Rolls
+pub mod Answers

@@ -1,0 +1,12 @@
+pub mod Rolls
+pub mod Verdicts
+pub mod Cases
+pub mod Nodes
+pub mod Kept
+pub mod Unchanged
+pub mod Within
+pub mod Tallies
+pub mod Cells
+pub mod Tracks
+pub mod Offered
+pub mod Computed

@@ -1,0 +1,12 @@
+pub mod State
+pub mod Calls
+pub mod Refusals
+pub mod Booking
+pub mod Rules
+pub mod Runs
+pub mod Balance
+pub mod Soundness
+pub mod Tally
+pub mod Pairs
+pub mod Laws
+pub mod Worked
