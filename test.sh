@@ -11,7 +11,7 @@ python3 -m unittest discover -q -s reference
 # the stored expectations are what the reference prints
 cmp storms/cloudburst.txt crates/hydrograph/stdin
 python3 reference/hydrograph.py < storms/cloudburst.txt | cmp - crates/hydrograph/stdout
-python3 reference/node_example.py | cmp - crates/node_example/stdout
+python3 reference/district_example.py | cmp - crates/district_example/stdout
 
 # rt's last line is held back until the programs it built have been compared
 log=$(mktemp)

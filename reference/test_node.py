@@ -8,7 +8,6 @@ import dataclasses
 import unittest
 from random import Random
 
-import node_example
 from card import BAD_AREAS, BAD_CONCENTRATION, BAD_SOIL, Areas, Card, Concentrations
 from node import BAD_FORCING, PLACES, Forcing, Node
 from reservoirs import CAPACITY, TOO_FULL, Lag, Linear, Refusal, Series
@@ -404,40 +403,6 @@ class RandomSteps(unittest.TestCase):
                 self.assert_no_less(state(first), state(second), seed)
         self.assertGreater(accepted, 1000)
         self.assertGreater(refused, 10)
-
-
-class Example(unittest.TestCase):
-    def setUp(self):
-        self.lines = node_example.page().decode("ascii").splitlines()
-
-    def test_it_opens_with_the_worked_steps(self):
-        expected = [
-            "open 3000000",
-            "step 3000 400 0: flows 25000 50000 0 50000 8400 8400 0"
-            " evaporated 47000 sunk 0 loads 34500000 0 0",
-            "look 31512 500 0 0 0 0 0 0",
-            "step 0 0 -2000: flows 0 0 0 0 10050 10050 0 evaporated 0 sunk 181100 loads 0 0 0",
-            "look 30000 0 0 0 0 0 0 0",
-        ]
-        self.assertEqual(self.lines[:5], expected)
-
-    def test_both_refusals_are_there_and_change_nothing(self):
-        for refusal in (
-            "step 0 0 -10001: refused cause 12 layer 3 place 0",
-            "step 100000 0 0: refused cause 5 layer 4 place 1",
-        ):
-            number = self.lines.index(refusal)
-            self.assertEqual(self.lines[number - 1], self.lines[number + 1])
-
-    def test_all_balances_stand(self):
-        balances = [line for line in self.lines if line.startswith("balance ")]
-        self.assertEqual(len(balances), 3)
-        for line in balances:
-            came, went = (
-                [int(word) for word in side.split() if word.isdigit()] for side in line.split(" = ")
-            )
-            self.assertEqual((len(came), len(went)), (3, 4))
-            self.assertEqual(sum(came), sum(went))
 
 
 if __name__ == "__main__":

@@ -1,4 +1,4 @@
-// The three nodes: their makes, cards, reservoirs and steps.
+// The three nodes: their makes, cards and reservoirs.
 
 use card::areas::Areas;
 use card::card::Card;
@@ -34,47 +34,31 @@ pub impl Makes for Example as ExampleMakes {
     type Slow = Series<Linear, Linear>;
 }
 
-// Rain, evaporation and seepage of a step, in points.
-pub type Weather = (u32, u32, i32);
+// A node by its card and reservoirs.
+#[derive(Clone, Copy)]
+pub enum Site {
+    Yard,
+    Town,
+    Meadow,
+}
 
-pub const YARD_STEPS: [Weather; 10] = [
-    (3_000, 400, 0),
-    (0, 0, -2_000),
-    (0, 500, 0),
-    (10, 400, 0),
-    (1_200, 250, 50),
-    (0, 0, -10_001),
-    (0, 0, -10_000),
-    (9_000, 101, 0),
-    (8_000, 0, 0),
-    (700, 33, 7),
-];
+impl Site {
+    pub fn card(self) -> Card {
+        match self {
+            Site::Yard => yard(),
+            Site::Town => town(),
+            Site::Meadow => meadow(),
+        }
+    }
 
-pub const LAKE_STEPS: [Weather; 12] = [
-    (100_000, 0, 0),
-    (100_000, 0, 0),
-    (100_000, 0, 0),
-    (100_000, 0, 0),
-    (100_000, 0, 0),
-    (100_000, 0, 0),
-    (100_000, 0, 0),
-    (100_000, 0, 0),
-    (100_000, 0, 0),
-    (100_000, 0, 0),
-    (100_000, 0, 0),
-    (0, 400, 0),
-];
-
-pub const TOWN_STEPS: [Weather; 8] = [
-    (1_250, 60, 0),
-    (3_470, 20, 15),
-    (0, 310, 15),
-    (5_000, 0, -40),
-    (810, 95, -400),
-    (0, 420, 3),
-    (0, 420, 0),
-    (2_222, 133, 77),
-];
+    pub fn reservoirs(self) -> Result<Reservoirs<Example>, Fault> {
+        match self {
+            Site::Yard => yard_reservoirs(),
+            Site::Town => town_reservoirs(),
+            Site::Meadow => meadow_reservoirs(),
+        }
+    }
+}
 
 fn loam() -> Soil {
     Soil {
@@ -102,6 +86,19 @@ fn clay() -> Soil {
     }
 }
 
+fn sand() -> Soil {
+    Soil {
+        wilting_point: Depth(2_400),
+        field_capacity: Depth(16_080),
+        saturation: Depth(29_680),
+        infiltration_limit: Depth(2_500),
+        percolation_limit: Depth(1_200),
+        depression_limit: Depth(800),
+        crop_factor: 95,
+        slow_share: 70,
+    }
+}
+
 fn areas(open: u32, paved: u32, sewer: u32, unpaved: u32) -> Areas {
     Areas {
         open: Area(open),
@@ -121,7 +118,7 @@ fn flow(ammonium: u32, nitrate: u32, phosphor: u32) -> [Concentration; 3] {
 }
 
 // A small yard with some ditch, some pavement and mostly grass.
-pub fn yard() -> Card {
+fn yard() -> Card {
     let clean = flow(0, 0, 0);
     Card {
         areas: areas(10, 20, 0, 100),
@@ -132,20 +129,8 @@ pub fn yard() -> Card {
     }
 }
 
-// A lake of the largest area.
-pub fn lake() -> Card {
-    let clean = flow(0, 0, 0);
-    Card {
-        areas: areas(100_000_000, 0, 0, 0),
-        soil: loam(),
-        concentrations: Concentrations {
-            by_flow: [flow(240, 120, 11), clean, clean, clean, clean, clean, clean],
-        },
-    }
-}
-
 // A part of a town with every kind of surface, and a concentration of its own in each flow.
-pub fn town() -> Card {
+fn town() -> Card {
     Card {
         areas: areas(1_000, 2_500, 4_000, 12_500),
         soil: clay(),
@@ -163,10 +148,29 @@ pub fn town() -> Card {
     }
 }
 
-// The given fractions in the open place, and reservoirs that keep nothing in the others.
-pub fn open_alone(recession: u64, retention: u64) -> Result<Reservoirs<Example>, Fault> {
+// A meadow on fine sand with a ditch and a path; its sewer place stays dry.
+fn meadow() -> Card {
+    Card {
+        areas: areas(400, 100, 0, 39_500),
+        soil: sand(),
+        concentrations: Concentrations {
+            by_flow: [
+                flow(240, 120, 11),
+                flow(150, 90, 40),
+                flow(0, 0, 0),
+                flow(110, 460, 85),
+                flow(25, 730, 12),
+                flow(15, 340, 6),
+                flow(310, 20, 52),
+            ],
+        },
+    }
+}
+
+// Reservoirs that keep nothing.
+fn yard_reservoirs() -> Result<Reservoirs<Example>, Fault> {
     Ok(Reservoirs::new(
-        Linear::new(recession, retention)?,
+        Linear::new(0, 0)?,
         Linear::new(0, 0)?,
         Series::join(Linear::new(0, 0)?, Lag::new(1)?),
         Linear::new(0, 0)?,
@@ -175,7 +179,7 @@ pub fn open_alone(recession: u64, retention: u64) -> Result<Reservoirs<Example>,
     ))
 }
 
-pub fn town_reservoirs() -> Result<Reservoirs<Example>, Fault> {
+fn town_reservoirs() -> Result<Reservoirs<Example>, Fault> {
     Ok(Reservoirs::new(
         Linear::new(30_000, 47_000)?,
         Linear::new(12_345, 34_567)?,
@@ -183,5 +187,16 @@ pub fn town_reservoirs() -> Result<Reservoirs<Example>, Fault> {
         Linear::new(5_000, 30_000)?,
         Linear::new(44_000, 55_555)?,
         Series::join(Linear::new(60_000, 62_000)?, Linear::new(60_000, 62_000)?),
+    ))
+}
+
+fn meadow_reservoirs() -> Result<Reservoirs<Example>, Fault> {
+    Ok(Reservoirs::new(
+        Linear::new(40_000, 52_000)?,
+        Linear::new(10_000, 33_000)?,
+        Series::join(Linear::new(0, 0)?, Lag::new(2)?),
+        Linear::new(25_000, 45_000)?,
+        Linear::new(50_000, 58_000)?,
+        Series::join(Linear::new(62_000, 63_700)?, Linear::new(61_000, 63_200)?),
     ))
 }
