@@ -1,6 +1,6 @@
 -- Lines of numbers with a space between each two, and what `naturals` has read of one. It rests on `Forms` and on the shelf's `Lists`.
 use Rattle.std.proofs.Common.{◌≡◌, ℕ, zero, suc, ◌+◌, ◌^◌, ◌<◌, ◌≤◌, List, [], ◌∷◌, ◌++◌, map, length, get_or, take, drop, set, replicate, Some, None, decimal, Option, sym, refl, ap, ◌∙◌, arith, length-set, take-append-drop, length-take, Bor}
-use lib.ListN.{length_replicate}
+use lib.ListN.{length-replicate}
 use Rattle.std.specs.Str.Iter.{LacksByte}
 use Rattle.std.specs.List.{join_with_byte, flat_map, AllByRecursion as All}
 use Rattle.std.proofs.lemmas.Fmt.{decimal_injective}
@@ -86,7 +86,7 @@ pub record Progress (count : ℕ) (line numbers : List ℕ) (i : ℕ) (rest : Op
   pub whole : 32 ∷ line ≡ spaced (take i numbers) ++ afterSpace rest
 
 pub progress_start : (count : ℕ) (line : Bor (List ℕ)) → (count ≡ 0 → length line.now ≡ 0 → ⊥) → Progress count line.now (replicate count 0) 0 (Some line)
-progress_start count line filled = record { filled = filled; long = length_replicate count 0; below = zeros_below count; whole = refl }
+progress_start count line filled = record { filled = filled; long = length-replicate count 0; below = zeros_below count; whole = refl }
 
 module _ {count : ℕ} {line numbers : List ℕ} {i : ℕ} {rest : Option (Bor (List ℕ))} (p : Progress count line numbers i rest) (ns : List ℕ) (writes : WritesAll count line ns) where
   -- any numbers that the line writes are those read so far, and then those of the rest

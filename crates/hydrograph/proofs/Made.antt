@@ -1,6 +1,6 @@
 -- Emptied gauges of the makes with which a storm is routed, and what a line of three numbers says.
 use Rattle.std.proofs.Common.{◌≡◌, ℕ, List, [], ◌∷◌, ◌++◌, length, get_or, replicate, Ok, Err, Result, refl, ap, ◌∙◌, subst, arith, MatchResult}
-use lib.ListN.{length_replicate}
+use lib.ListN.{length-replicate}
 use Rattle.decimal.specs.Reading.{WritesAll}
 use Rattle.hydrograph.specs.Prepared.{fresh, Prepares}
 use Rattle.hydrograph.specs.Refusals.{Written, RefusesNumbers, RefusesSettings}
@@ -11,7 +11,7 @@ use Rattle.reservoir.specs.Meaning.{Settings}
 use Rattle.routing.specs.Gauges.{Gauge}
 
 pub emptied_zeros : (n : ℕ) (c : List ℕ) → c ≡ replicate n 0 → emptied c ≡ replicate n 0
-emptied_zeros n c e = ap (λ k. replicate k 0) (ap length e ∙ length_replicate n 0)
+emptied_zeros n c e = ap (λ k. replicate k 0) (ap length e ∙ length-replicate n 0)
 
 pub fresh_same : {s t : Settings} {c d : List ℕ} → s ≡ t → c ≡ d → fresh s c ≡ fresh t d
 fresh_same e f = cc

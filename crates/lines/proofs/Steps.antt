@@ -1,6 +1,6 @@
 -- The step from one line of a text to the next. It rests on `Lines`.
 use Rattle.std.proofs.Common.{◌≡◌, ℕ, ◌+◌, ◌-◌, ◌<◌, ◌≤◌, min, List, [], ◌∷◌, ◌++◌, length, take, drop, sym, ap, ◌∙◌, ⊎_elim, arith, rules, eq-eqb, ne_eqb}
-use native.Mathlib.Nat.{add_sub_cancel_left}
+use native.Mathlib.Nat.{add-sub_cancel_left}
 use Rattle.std.specs.Str.Iter.{LacksByte}
 use Rattle.std.proofs.lemmas.List.{drop_all, drop-drop, length-drop, places, take_all, take-append-drop, take_more, take_rest}
 use Rattle.std.proofs.lemmas.Bool.{cases_eq, cases_lt}
@@ -66,4 +66,4 @@ module _ {text : List ℕ} {start count n next : ℕ} (step : Step text start co
   next_counted = omega (arith, simp length-drop at (ap length next_line))
 
   pub next_ahead : drop count (lines_of text) ≡ take (start + n - start) (drop start text) ∷ drop (count + 1) (lines_of text)
-  next_ahead = simp add_sub_cancel_left (next_line ∙ ap (λ ls. take n (drop start text) ∷ ls) next_placed)
+  next_ahead = simp add-sub_cancel_left (next_line ∙ ap (λ ls. take n (drop start text) ∷ ls) next_placed)

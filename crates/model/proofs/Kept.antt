@@ -1,6 +1,6 @@
 -- A new district is sound, and every proper call keeps it so.
 use Rattle.std.proofs.Common.{◌≡◌, ℕ, zero, suc, cond, List, [], ◌∷◌, length, replicate, sum_by, refl, arith}
-use lib.ListN.{length_replicate}
+use lib.ListN.{length-replicate}
 use Rattle.std.specs.List.{AllByRecursion as All}
 use Rattle.std.proofs.ByRecursion.{All-set}
 use Rattle.std.proofs.lemmas.List.{length-set}
@@ -97,7 +97,7 @@ starts makes cells =
     let count = new_sum (λ y. cond (is_open y) 1 0) refl number_count in
     let sums = new_sum stored refl number_count in
     record {
-      numbers = length_replicate number_count new;
+      numbers = length-replicate number_count new;
       standings = new_standings makes number_count;
       cells = omega arith;
       closes = omega arith;

@@ -1,6 +1,6 @@
 -- The balance of a step, and that more rain gives no less.
 use Rattle.std.proofs.Common.{◌≡◌, ℕ, ◌+◌, ◌-◌, ◌*◌, ◌^◌, ◌≤◌, min, List, [], ◌∷◌, ◌++◌, length, sym, refl, ap, ◌∙◌, subst, mul-le-mul_right, mul-le-mul, arith}
-use lib.ListN.{length_replicate}
+use lib.ListN.{length-replicate}
 use Rattle.card.specs.Limits.{all_areas, hard_areas}
 use Rattle.card.specs.Loads.{loads_of}
 use Rattle.card.specs.declared.card.Card.{Card}
@@ -146,7 +146,7 @@ each_emptied_fits : (makes : List Make) (ss : List State) → EachFits makes ss 
 each_emptied_fits [] [] f = tt
 each_emptied_fits [] (s ∷ ss) f = elim f [ ]
 each_emptied_fits (m ∷ ms) [] f = elim f [ ]
-each_emptied_fits (m ∷ ms) (s ∷ ss) f = ((f.0.0, length_replicate (length s.cells) 0 ∙ f.0.1), each_emptied_fits ms ss f.1)
+each_emptied_fits (m ∷ ms) (s ∷ ss) f = ((f.0.0, length-replicate (length s.cells) 0 ∙ f.0.1), each_emptied_fits ms ss f.1)
 
 pub opened_sound : (makes : List Make) (c : Card) (ss : List State) → Admissible c.soil → EachFits makes ss → Sound makes (opened c ss)
 opened_sound makes c ss s f = record { soil = s; within = (omega arith, omega arith); fits = each_emptied_fits makes ss f }

@@ -1,6 +1,6 @@
 -- A roll with one mark and one cell changed.
 use Rattle.std.proofs.Common.{◌≡◌, ℕ, zero, suc, ◌<◌, cond, ◌⊎◌, List, [], ◌∷◌, map, length, get_or, take, set, is_some, None, count_by, Option, sym, refl, ap, ◌∙◌, inl, inr, ⊎_elim, arith, length-take}
-use lib.Seq.{take_set_lt}
+use lib.Seq.{take-set-lt}
 use Rattle.std.proofs.lemmas.List.{get_or-set_same, get_or-set_other, get_or-take, map-set}
 use Rattle.std.proofs.lemmas.List.Sums.{sum_by-set}
 use Rattle.node.specs.declared.node.Node.{Node}
@@ -63,7 +63,7 @@ module _ {N : Type 0} (marks : List Mark) (cells : List (Option N)) (j : ℕ) (m
       let e = alike c.before in
       let e' = alike c.after in
       let d = ap g (get_or-take 64 cells i None c.usable) in
-      let q = ap (count_by is_some) (take_set_lt 64 cells i x c.usable) in
+      let q = ap (count_by is_some) (take-set-lt 64 cells i x c.usable) in
       omega arith
 
 -- two functions that agree everywhere but at j give the same list with another element there

@@ -1,6 +1,6 @@
 -- The three changes of a roll: a number entered, its node stepped, and the number withdrawn.
 use Rattle.std.proofs.Common.{◌≡◌, ℕ, zero, suc, ◌-◌, ◌<◌, ◌≤◌, false, cond, List, [], ◌∷◌, length, get_or, take, set, replicate, is_some, Some, None, Ok, Err, vec_items, vec_len, count_by, Option, sym, refl, ap, ◌∙◌, subst, arith}
-use lib.ListN.{length_replicate}
+use lib.ListN.{length-replicate}
 use Rattle.std.proofs.lemmas.List.{get_or-set_same, length-set, set-get_or}
 use Rattle.std.proofs.lemmas.List.Sums.{sum_by-cons}
 use Rattle.ground.specs.declared.forcing.Forcing.{Forcing}
@@ -173,7 +173,7 @@ none_used (suc n) (x ∷ xs) h =
 
 pub linked_new : {N : Type 0} (cells : List (Option N)) → ((k : ℕ) → k < length cells → is_some (get_or cells k None) ≡ false) → Linked (replicate 256 New) cells
 linked_new cells h = (
-  length_replicate 256 New,
+  length-replicate 256 New,
   (
     (λ k i e. elim (none_open 256 k i e) [ ]),
     (

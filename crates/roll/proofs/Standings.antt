@@ -1,6 +1,6 @@
 -- What the marks and cells of a roll say of its numbers.
 use Rattle.std.proofs.Common.{◌≡◌, ℕ, zero, suc, ◌-◌, ◌<◌, ◌≤◌, min, Bool, true, false, cond, List, [], ◌∷◌, length, get_or, take, is_some, Some, None, vec_items, vec_len, count_by, Option, Result, sym, refl, ap, ◌∙◌, subst, arith, length-take, MatchOption, MatchResult}
-use lib.ListN.{length_map}
+use lib.ListN.{length-map}
 use Rattle.std.specs.Option.{ok_or}
 use Rattle.std.proofs.lemmas.List.{get_or-map, get_or_past, get_or_default}
 use Rattle.std.proofs.lemmas.List.Sums.{sum_by-cons, count_by-le-length}
@@ -35,7 +35,7 @@ module _ {P : Type 0} (reservoirs : P → List State) (cells : List (Option (Nod
       standing (standings reservoirs cells marks) k ≡ outside
   standing_outside marks zero e h = refl
   standing_outside marks (suc j) e h =
-      let l : length (standings reservoirs cells marks) ≤ j = simp length_map (grind arith) in
+      let l : length (standings reservoirs cells marks) ≤ j = simp length-map (grind arith) in
       get_or_past (standings reservoirs cells marks) j outside l
 
   -- an open number stands with the node of its cell

@@ -1,6 +1,6 @@
 -- The laws of whole runs, of every make that keeps a reservoir's meaning.
 use Rattle.std.proofs.Common.{◌≡◌, ℕ, zero, suc, ◌+◌, ◌≤◌, List, [], ◌∷◌, length, replicate, Ok, Err, Result, sym, refl, ap, ◌∙◌, subst, arith}
-use lib.ListN.{length_replicate}
+use lib.ListN.{length-replicate}
 use Rattle.quantity.specs.declared.water.Centilitres.{Centilitres}
 use Rattle.reservoir.specs.Answers.{Takes}
 use Rattle.reservoir.specs.Cells.{held, AtMost}
@@ -33,7 +33,7 @@ balance_over m mm s c (t ∷ ts) f r =
 
 pub runs_balance : (m : Make) → Meaning m → RunsBalance m
 runs_balance m mm s ts v r =
-    let x = balance_over m mm s (empty m s) ts (v, length_replicate (m.size s) 0) r in
+    let x = balance_over m mm s (empty m s) ts (v, length-replicate (m.size s) 0) r in
     let y = held_zeros (m.size s) in omega arith
 
 -- one pair of takings from cells in order
@@ -69,5 +69,5 @@ at_most_zeros (suc n) = (omega arith, at_most_zeros n)
 
 pub more_gives_no_less : (m : Make) → Meaning m → MoreGivesNoLess m
 more_gives_no_less m mm s ps v r =
-    let f : Fits m s (empty m s) = (v, length_replicate (m.size s) 0) in
+    let f : Fits m s (empty m s) = (v, length-replicate (m.size s) 0) in
     no_less_over m mm s (empty m s) (empty m s) ps f f (at_most_zeros (m.size s)) r

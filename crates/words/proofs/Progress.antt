@@ -1,6 +1,6 @@
 -- What `naturals` has read.
 use Rattle.std.proofs.Common.{◌≡◌, ℕ, zero, suc, ◌+◌, ◌^◌, ◌<◌, List, [], ◌∷◌, ◌++◌, map, length, get_or, take, drop, set, replicate, Some, None, decimal, refl, ap, ◌∙◌, arith, length-set}
-use lib.ListN.{length_replicate}
+use lib.ListN.{length-replicate}
 use Rattle.std.specs.List.{AllByRecursion as All}
 use Rattle.std.proofs.ByRecursion.{All-get_or, All-set}
 use Rattle.std.proofs.lemmas.List.{append-nil, append_assoc, at_drop_more, at_drop_all, drop_all, drop_more, flat_map_more, map_push, nil_from_length, take_all, take_more_set}
@@ -29,7 +29,7 @@ pub record Progress (count : ℕ) (bytes numbers : List ℕ) (i : ℕ) (rest : L
   pub only : (ns : List ℕ) → WritesNaturals count bytes ns → (take i numbers ++ drop i ns ≡ ns) × (rest ≡ forms (drop i ns))
 
 pub progress_start : (count : ℕ) (bytes : List ℕ) → Progress count bytes (replicate count 0) 0 bytes
-progress_start count bytes = record { long = length_replicate count 0; below = zeros_below count; whole = refl; only = λ ns writes. (refl, writes.2) }
+progress_start count bytes = record { long = length-replicate count 0; below = zeros_below count; whole = refl; only = λ ns writes. (refl, writes.2) }
 
 module _ {count : ℕ} {bytes numbers : List ℕ} {i : ℕ} {before : List ℕ} (p : Progress count bytes numbers i before) where
   module _ (within : i < count) where

@@ -9,5 +9,5 @@ pub returns-then-byte-eq32 : goal.returns-then-byte-eq32
 returns-then-byte-eq32 c = record {
   word = search (rules, places);
   whole = simp (sub-zero, take_rest) (split_at_space c.args.line.now c.loop-i.i c.loop-i-test.true c.if-byte-eq32.true);
-  no-rest = search rules;
+  no_rest = search rules;
 }

@@ -5,10 +5,10 @@ use Rattle.card.proofs.concentrations.flow_within.Goals as goal
 
 pub returns : goal.returns
 returns c =
-    let all : length c.args.of-flow.now ≡ nutrient_count = search rules in
+    let all : length c.args.of_flow.now ≡ nutrient_count = search rules in
     record {
       decides = (
-        λ _. at_any_place (λ k. k.0 ≤ largest_concentration) c.args.of-flow.now (record { 0 = 0 }) nutrient_count
+        λ _. at_any_place (λ k. k.0 ≤ largest_concentration) c.args.of_flow.now (record { 0 = 0 }) nutrient_count
             (omega arith) (omega arith) (λ n h. c.loop-concentration.invariant n (omega arith)),
         λ _. refl,
       );

@@ -4,4 +4,4 @@ use Rattle.card.proofs.concentrations.flow_within.Given as goal
 
 abbrev pub invariant-loop-concentration : goal.invariant-loop-concentration
 invariant-loop-concentration l =
-    (nutrient : ℕ) → nutrient < l.concentration-index → concentration_of l.of-flow nutrient ≤ largest_concentration
+    (nutrient : ℕ) → nutrient < l.concentration-index → concentration_of l.of_flow nutrient ≤ largest_concentration

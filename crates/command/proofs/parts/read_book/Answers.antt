@@ -4,5 +4,5 @@ use Rattle.std.proofs.lemmas.List.{nil_from_length}
 use Rattle.command.proofs.Forms.{read_behind}
 use Rattle.command.proofs.parts.read_book.Goals as goal
 
-pub returns-then-is-done : goal.returns-then-is-done
-returns-then-is-done c = read_behind (nil_from_length _ (true-eqb _ 0 c.if-is-done.ensures))
+pub returns-then-is_done : goal.returns-then-is_done
+returns-then-is_done c = read_behind (nil_from_length _ (true-eqb _ 0 c.if-is_done.ensures))

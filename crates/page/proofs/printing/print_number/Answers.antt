@@ -13,7 +13,7 @@ pub returns : goal.returns
 returns c =
     let start = c.loop-rest.start in
     let digits = c.loop-rest.digits in
-    c.in-ok-extend-from-slice.ensures.items
+    c.in_ok-extend_from_slice.ensures.items
     ∙ ap (λ (l : List ℕ). vec_items c.args.page.now ++ l)
     (ap (λ (n : ℕ). take (n - start) (drop start digits)) (sym c.loop-rest.invariant.twenty) ∙ take_rest digits start
     ∙ split_end _ _ _ _ c.loop-rest.invariant (omega arith))

@@ -5,14 +5,14 @@ use Rattle.words.proofs.Forms.{few_digits, natural_few, natural_some}
 use Rattle.words.proofs.number.natural.Goals as goal
 
 -- the number that was read has at most nine digits
-below : (c : goal.In-ok-natural) → c.in-ok-natural.field-0 < 10 ^ 9
-below c = few_digits c.args.word.now c.in-ok-natural.field-0 ((c.in-ok-natural.ensures _).0 refl) c.if-word-gt-MOST-DIGITS.false
+below : (c : goal.In_ok-natural) → c.in_ok-natural.field-0 < 10 ^ 9
+below c = few_digits c.args.word.now c.in_ok-natural.field-0 ((c.in_ok-natural.ensures _).0 refl) c.if-word-gt-MOST_DIGITS.false
 
-pub returns-then-word-gt-MOST-DIGITS : goal.returns-then-word-gt-MOST-DIGITS
-returns-then-word-gt-MOST-DIGITS c = none (λ n writes. omega (arith, natural_few _ n writes))
+pub returns-then-word-gt-MOST_DIGITS : goal.returns-then-word-gt-MOST_DIGITS
+returns-then-word-gt-MOST_DIGITS c = none (λ n writes. omega (arith, natural_few _ n writes))
 
-pub overflow-cast-result : goal.overflow-cast-result
-overflow-cast-result c = omega (arith, below c)
+pub overflow_cast-result : goal.overflow_cast-result
+overflow_cast-result c = omega (arith, below c)
 
 pub returns : goal.returns
-returns c = natural_some _ _ (below c, ((c.in-ok-natural.ensures _).0 refl).1)
+returns c = natural_some _ _ (below c, ((c.in_ok-natural.ensures _).0 refl).1)

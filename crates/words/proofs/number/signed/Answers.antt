@@ -7,25 +7,25 @@ use Rattle.words.proofs.number.signed.Goals as goal
 
 pub returns-in-err-size : goal.returns-in-err-size
 returns-in-err-size c =
-    rw c.from-residual.ensures (minus_none (first_rest c.args.word.now 0 (omega (arith, ltb-false))) (omega arith)
+    rw c.from_residual.ensures (minus_none (first_rest c.args.word.now 0 (omega (arith, ltb-false))) (omega arith)
     (λ n writes. let e = (c.in-err-size.ensures (suc n)).1 writes in let z : ◌≡◌ {A = ℕ} 0 1 = cc in omega arith))
 
-pub overflow-cast-result : goal.overflow-cast-result
-overflow-cast-result c = omega (arith, ints, ((c.in-ok-size.ensures _).0 refl).0)
+pub overflow_cast-result : goal.overflow_cast-result
+overflow_cast-result c = omega (arith, ints, ((c.in-ok-size.ensures _).0 refl).0)
 
-pub overflow-sub-result : goal.overflow-sub-result
-overflow-sub-result c = omega (arith, ints, ((c.in-ok-size.ensures _).0 refl).0)
+pub overflow_sub-result : goal.overflow_sub-result
+overflow_sub-result c = omega (arith, ints, ((c.in-ok-size.ensures _).0 refl).0)
 
-pub overflow-cast-result-in-default : goal.overflow-cast-result-in-default
-overflow-cast-result-in-default c = omega (arith, ints, ((c.in-ok-natural.ensures _).0 refl).0)
+pub overflow_cast-result-in_default : goal.overflow_cast-result-in_default
+overflow_cast-result-in_default c = omega (arith, ints, ((c.in-ok-natural.ensures _).0 refl).0)
 
 pub returns-in-0 : goal.returns-in-0
 returns-in-0 c =
     minus_none (first_rest c.args.word.now 0 (omega (arith, ltb-false))) (omega arith)
     (λ n writes. let e : c.in-ok-size.size ≡ suc n = cc ((c.in-ok-size.ensures (suc n)).1 writes) in omega arith)
 
-pub returns-in-default-2 : goal.returns-in-default-2
-returns-in-default-2 c =
+pub returns-in_default-2 : goal.returns-in_default-2
+returns-in_default-2 c =
     let writes = (c.in-ok-size.ensures _).0 refl in
     minus_some (first_rest c.args.word.now 0 (omega (arith, ltb-false))) (omega arith) c.in-ok-size.size _ (omega arith) writes (omega (arith, ints, writes.0))
 

@@ -8,7 +8,7 @@ use Rattle.card.proofs.concentrations.CheckedConcentrations.nutrient_load.Goals 
 pub loop-flow-preserved : goal.loop-flow-preserved
 loop-flow-preserved c = (
   load_more c.args.flows.now c.args.self.now.numbers.by_flow c.args.nutrient c.loop-flow.flow _ _
-      (omega arith) (omega arith) c.loop-flow.invariant.0 c.flow-load-sum.ensures.value,
+      (omega arith) (omega arith) c.loop-flow.invariant.0 c.flow_load-sum.ensures.value,
   omega arith,
 )
 

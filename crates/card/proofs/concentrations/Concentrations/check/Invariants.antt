@@ -4,5 +4,5 @@ use Rattle.card.proofs.concentrations.Concentrations.check.Given as goal
 
 abbrev pub invariant-loop-of-flow : goal.invariant-loop-of-flow
 invariant-loop-of-flow l =
-    (flow : ℕ) → flow < l.of-flow-index →
-    FlowWithin (get_or l.of-flow-items flow []) × (length (get_or l.of-flow-items flow []) ≡ nutrient_count)
+    (flow : ℕ) → flow < l.of_flow-index →
+    FlowWithin (get_or l.of_flow-items flow []) × (length (get_or l.of_flow-items flow []) ≡ nutrient_count)

@@ -10,5 +10,5 @@ returns g c =
     let d = c.args.self.now in
     let v = c.look.result in
     look_granted g.P.Places.makes g.met.P.Places.meanings (rolled g.P.Places.reservoirs d.roll) (book_of d.book) c.args.number
-    (store g.P.Places.reservoirs c.in-ok-node.node.now) c.in-ok-node.ensures
+    (store g.P.Places.reservoirs c.in_ok-node.node.now) c.in_ok-node.ensures
     v.moisture.0 v.depression.0 (listed v.contents) c.look.ensures.moisture c.look.ensures.depression c.look.ensures.contents

@@ -27,6 +27,6 @@ returns g c =
       withdrawn_stays = withdrawn_stays g.P.Places.makes;
       changes_nothing = changes_nothing g.P.Places.makes;
       totals_stay_within = totals_stay_within g.P.Places.makes g.met.P.Places.meanings;
-      verdict-is-offer = verdict_offered;
+      verdict_is_offer = verdict_offered;
       worked_calls = worked_calls;
     }

@@ -7,8 +7,8 @@ use Rattle.district.proofs.district.District.withdraw.Goals as goal
 pub returns : goal.returns
 returns g c =
     let d = c.args.self.now in
-    let h = c.in-ok-node.ensures in
+    let h = c.in_ok-node.ensures in
     withdrawal_granted g.P.Places.makes g.met.P.Places.meanings (rolled g.P.Places.reservoirs d.roll) (book_of d.book) c.args.number
-    (store g.P.Places.reservoirs c.in-ok-node.node) h.0 c.storage-ceded.result.0
+    (store g.P.Places.reservoirs c.in_ok-node.node) h.0 c.storage-ceded.result.0
     (rolled g.P.Places.reservoirs c.withdraw.new.self) (book_of c.book_withdrawal.new.self)
     c.storage-ceded.ensures h.1 c.book_withdrawal.ensures

@@ -16,14 +16,14 @@ six (a ∷ b ∷ c ∷ d ∷ e ∷ []) n = let z : ⊥ = omega arith in elim z [
 six (a ∷ b ∷ c ∷ d ∷ e ∷ f ∷ []) n = refl
 six (a ∷ b ∷ c ∷ d ∷ e ∷ f ∷ g ∷ gs) n = let z : ⊥ = omega arith in elim z [ ]
 
-pub returns-in-err-surface : goal.returns-in-err-surface
-returns-in-err-surface c = let e = six c.args.fractions.now (search rules) in search rules
+pub returns-in_err-surface : goal.returns-in_err-surface
+returns-in_err-surface c = let e = six c.args.fractions.now (search rules) in search rules
 
-pub returns-in-err-quick : goal.returns-in-err-quick
-returns-in-err-quick c = let e = six c.args.fractions.now (search rules) in search rules
+pub returns-in_err-quick : goal.returns-in_err-quick
+returns-in_err-quick c = let e = six c.args.fractions.now (search rules) in search rules
 
-pub returns-in-err-slow : goal.returns-in-err-slow
-returns-in-err-slow c = let e = six c.args.fractions.now (search rules) in search rules
+pub returns-in_err-slow : goal.returns-in_err-slow
+returns-in_err-slow c = let e = six c.args.fractions.now (search rules) in search rules
 
 pub returns : goal.returns
 returns c = let e = six c.args.fractions.now (search rules) in search rules

@@ -4,8 +4,8 @@ use Rattle.ground.proofs.Shares.{share_within}
 use Rattle.ground.proofs.Flows.{percolation_laws}
 use Rattle.ground.proofs.soil.CheckedSoil.percolation.Goals as goal
 
-pub overflow-cast-result : goal.overflow-cast-result
-overflow-cast-result c =
+pub overflow_cast-result : goal.overflow_cast-result
+overflow_cast-result c =
     let soil = c.args.self.now in
     let w = share_within (percolation_limit soil.numbers) (drainable_depth soil.numbers) c.min-above.result soil.admissible.1.2 in
     omega arith

@@ -2,8 +2,8 @@ use Rattle.std.proofs.Common.{refl}
 use Rattle.reservoir.specs.Delay.{cleared, cleared_within}
 use Rattle.reservoir.proofs.lag.Lag.cleared.Goals as goal
 
-pub invariant-of-result : goal.invariant-of-result
-invariant-of-result c = (refl, (c.requires, (cleared_within c.args.n c.requires.1, tt)))
+pub invariant_of-result : goal.invariant_of-result
+invariant_of-result c = (refl, (c.requires, (cleared_within c.args.n c.requires.1, tt)))
 
 pub returns : goal.returns
 returns c = (refl, cleared c.args.n c.requires.1)

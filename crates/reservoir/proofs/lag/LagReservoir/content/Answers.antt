@@ -2,8 +2,8 @@ use Rattle.std.proofs.Common.{◌≡◌, ◌+◌, ◌<◌, ◌≤◌, length, ar
 use Rattle.reservoir.specs.Delay.{held_more, held_fewer}
 use Rattle.reservoir.proofs.lag.LagReservoir.content.Goals as goal
 
-pub overflow-add-sum : goal.overflow-add-sum
-overflow-add-sum c =
+pub overflow_add-sum : goal.overflow_add-sum
+overflow_add-sum c =
     let i : c.loop-i.i < length c.args.self.now.cells = omega arith in
     let n : c.loop-i.i + 1 ≤ c.args.self.now.n = omega arith in
     let e = held_more c.args.self.now.cells c.loop-i.i (record { 0 = 0 }) i in

@@ -6,4 +6,4 @@ pub returns : goal.returns
 returns c =
     let h : c.args.self.now.n ≤ length c.args.self.now.cells = omega arith in
     let l = length_used c.args.self.now.n c.args.self.now.cells h in
-    record { same-settings = cc; all-zero = cc }
+    record { same_settings = cc; all_zero = cc }

@@ -3,8 +3,8 @@ use Rattle.reservoir.specs.Cells.{capacity}
 use Rattle.reservoir.proofs.linear.Linear.kept.Goals as goal
 
 -- both products are at most 65,535 times the capacity
-pub overflow-add-result : goal.overflow-add-result
-overflow-add-result c =
+pub overflow_add-result : goal.overflow_add-result
+overflow_add-result c =
     let a : c.args.self.now.recession ≤ 65535 = omega arith in
     let v : c.args.volume.0 ≤ capacity = omega arith in
     let x : c.args.self.now.recession * c.args.self.now.storage.0 ≤ 65535 * capacity = mul-le-mul a c.args.self.now.within in

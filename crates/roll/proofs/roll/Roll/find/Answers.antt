@@ -6,11 +6,11 @@ use Rattle.roll.proofs.roll.Roll.find.Goals as goal
 
 pub returns-in-New : goal.returns-in-New
 returns-in-New g c =
-    not_open_at _ new _ (stands_by g.P.Places.reservoirs c.args.self.now c.args.number _ New c.in-ok-mark.ensures c.in-New.is) refl
+    not_open_at _ new _ (stands_by g.P.Places.reservoirs c.args.self.now c.args.number _ New c.in_ok-mark.ensures c.in-New.is) refl
 
 pub returns-in-Open : goal.returns-in-Open
-returns-in-Open g c = is_open_in g.P.Places.reservoirs c.args.self.now c.args.number _ c.in-Open.cell c.in-ok-mark.ensures c.in-Open.is
+returns-in-Open g c = is_open_in g.P.Places.reservoirs c.args.self.now c.args.number _ c.in-Open.cell c.in_ok-mark.ensures c.in-Open.is
 
 pub returns-in-Withdrawn : goal.returns-in-Withdrawn
 returns-in-Withdrawn g c =
-    not_open_at _ withdrawn _ (stands_by g.P.Places.reservoirs c.args.self.now c.args.number _ Withdrawn c.in-ok-mark.ensures c.in-Withdrawn.is) refl
+    not_open_at _ withdrawn _ (stands_by g.P.Places.reservoirs c.args.self.now c.args.number _ Withdrawn c.in_ok-mark.ensures c.in-Withdrawn.is) refl

@@ -3,8 +3,8 @@ use Rattle.std.proofs.lemmas.List.{get_or-set_same, get_or-set_other}
 use Rattle.roll.proofs.Entries.{linked_new}
 use Rattle.roll.proofs.roll.Roll.new.Goals as goal
 
-pub invariant-of-result : goal.invariant-of-result
-invariant-of-result g c =
+pub invariant_of-result : goal.invariant_of-result
+invariant_of-result g c =
     linked_new (vec_items c.loop-cell.cells)
     (λ k l. let h : k < c.loop-cell.cell = omega (arith, c.loop-cell.cells.ok.0) in c.loop-cell.invariant.1 k h)
 

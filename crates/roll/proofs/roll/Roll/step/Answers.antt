@@ -6,32 +6,32 @@ use Rattle.roll.proofs.Entries.{linked_stepped, stepped_as, as_rolled, step_acce
 use Rattle.roll.proofs.Standings.{standing_open}
 use Rattle.roll.proofs.roll.Roll.step.Goals as goal
 
-pub invariant-of-self : goal.invariant-of-self
-invariant-of-self g c =
-    linked_stepped c.args.self.now c.args.number c.in-ok-cell.cell c.in-ok-cell.ensures c.step.new.self
+pub invariant_of-self : goal.invariant_of-self
+invariant_of-self g c =
+    linked_stepped c.args.self.now c.args.number c.in_ok-cell.cell c.in_ok-cell.ensures c.step.new.self
 
 pub returns-in-err-step : goal.returns-in-err-step
 returns-in-err-step g c =
     let p = err_from_is_err_and c.from-residual-in-err-step.result c.from-residual-in-err-step.ensures.1 in
     let r = c.args.self.now in
-    let h = c.in-ok-cell.ensures in
-    let l : c.in-ok-cell.cell < length (vec_items r.cells) = omega (arith, h.within, r.cells.ok.0) in
+    let h = c.in_ok-cell.ensures in
+    let l : c.in_ok-cell.cell < length (vec_items r.cells) = omega (arith, h.within, r.cells.ok.0) in
     rw (p.1, p.2)
     (step_refuses g.P.Places.makes (rolled g.P.Places.reservoirs r) _ c.args.number c.args.forcing
     (store g.P.Places.reservoirs c.in-Some.node) (store g.P.Places.reservoirs c.step.new.self)
-    (standing_open g.P.Places.reservoirs (vec_items r.cells) r.marks c.args.number c.in-ok-cell.cell _ c.in-Some.node
-    r.numbers h.marked l (sym c.index-mut.ensures.value ∙ c.in-Some.is))
-    (as_rolled _ _ _ (stepped_as g.P.Places.reservoirs r c.args.number c.in-ok-cell.cell c.step.new.self h))
+    (standing_open g.P.Places.reservoirs (vec_items r.cells) r.marks c.args.number c.in_ok-cell.cell _ c.in-Some.node
+    r.numbers h.marked l (sym c.index_mut.ensures.value ∙ c.in-Some.is))
+    (as_rolled _ _ _ (stepped_as g.P.Places.reservoirs r c.args.number c.in_ok-cell.cell c.step.new.self h))
     _ h.marked.from_one c.in-err-step.ensures)
 
 pub returns : goal.returns
 returns g c =
     let r = c.args.self.now in
-    let h = c.in-ok-cell.ensures in
-    let l : c.in-ok-cell.cell < length (vec_items r.cells) = omega (arith, h.within, r.cells.ok.0) in
+    let h = c.in_ok-cell.ensures in
+    let l : c.in_ok-cell.cell < length (vec_items r.cells) = omega (arith, h.within, r.cells.ok.0) in
     step_accepted g.P.Places.makes (rolled g.P.Places.reservoirs r) _ c.args.number c.args.forcing
     (store g.P.Places.reservoirs c.in-Some.node) (store g.P.Places.reservoirs c.step.new.self)
-    (standing_open g.P.Places.reservoirs (vec_items r.cells) r.marks c.args.number c.in-ok-cell.cell _ c.in-Some.node
-    r.numbers h.marked l (sym c.index-mut.ensures.value ∙ c.in-Some.is))
-    (as_rolled _ _ _ (stepped_as g.P.Places.reservoirs r c.args.number c.in-ok-cell.cell c.step.new.self h))
+    (standing_open g.P.Places.reservoirs (vec_items r.cells) r.marks c.args.number c.in_ok-cell.cell _ c.in-Some.node
+    r.numbers h.marked l (sym c.index_mut.ensures.value ∙ c.in-Some.is))
+    (as_rolled _ _ _ (stepped_as g.P.Places.reservoirs r c.args.number c.in_ok-cell.cell c.step.new.self h))
     _ c.in-ok-step.ensures

@@ -17,7 +17,7 @@ loop-mark-preserved g c =
     let m : i < length all = simp length-map l in
     let s = sum_by_more stored all i outside m in
     let d = ap stored (get_or-map by r.marks i New outside l) in
-    omega (arith, c.stored-under.ensures, c.plus-sum.ensures)
+    omega (arith, c.stored_under.ensures, c.plus-sum.ensures)
 
 pub returns : goal.returns
 returns g c =

@@ -8,20 +8,20 @@ use Rattle.roll.proofs.roll.Roll.vacancy.Goals as goal
 pub returns-in-New : goal.returns-in-New
 returns-in-New g c =
     let r = c.args.self.now in
-    let m = c.in-ok-mark.ensures in
+    let m = c.in_ok-mark.ensures in
     let s = stands_by g.P.Places.reservoirs r c.args.number _ New m c.in-New.is in
-    ok_or_cases _ _ _ _ _ _ _ c.ok-or.ensures.value c.unused-cell.ensures
+    ok_or_cases _ _ _ _ _ _ _ c.ok_or.ensures.value c.unused_cell.ensures
     (λ i q. (record { marked = marked_as r.marks c.args.number _ New m c.in-New.is; usable = q.0; within = q.1; unused = q.2 }, (s, q.3)))
     (λ q. not_vacant_at (rolled g.P.Places.reservoirs c.args.self.now) _ new _ s (refl, q))
 
 pub returns-in-Open : goal.returns-in-Open
 returns-in-Open g c =
     let r = c.args.self.now in
-    let o = is_open_in g.P.Places.reservoirs r c.args.number _ c.in-Open.field-0 c.in-ok-mark.ensures c.in-Open.is in
+    let o = is_open_in g.P.Places.reservoirs r c.args.number _ c.in-Open.field-0 c.in_ok-mark.ensures c.in-Open.is in
     let s = stands_open g.P.Places.reservoirs r c.args.number c.in-Open.field-0 o in
     not_vacant_at (rolled g.P.Places.reservoirs c.args.self.now) _ (open_with s.0) _ s.1 refl
 
 pub returns-in-Withdrawn : goal.returns-in-Withdrawn
 returns-in-Withdrawn g c =
     not_vacant_at (rolled g.P.Places.reservoirs c.args.self.now) _ withdrawn _
-    (stands_by g.P.Places.reservoirs c.args.self.now c.args.number _ Withdrawn c.in-ok-mark.ensures c.in-Withdrawn.is) refl
+    (stands_by g.P.Places.reservoirs c.args.self.now c.args.number _ Withdrawn c.in_ok-mark.ensures c.in-Withdrawn.is) refl

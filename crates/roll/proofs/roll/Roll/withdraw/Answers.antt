@@ -4,17 +4,17 @@ use Rattle.roll.proofs.Entries.{linked_changed, withdrawing, withdrawn_as, as_ro
 use Rattle.roll.proofs.Standings.{standing_open}
 use Rattle.roll.proofs.roll.Roll.withdraw.Goals as goal
 
-pub invariant-of-self : goal.invariant-of-self
-invariant-of-self g c =
-    linked_changed c.args.self.now (c.args.number - 1) Withdrawn c.in-ok-cell.cell c.take.new.self
-    (withdrawing c.args.self.now c.args.number c.in-ok-cell.cell c.in-ok-cell.ensures c.take.new.self c.take.ensures.after)
+pub invariant_of-self : goal.invariant_of-self
+invariant_of-self g c =
+    linked_changed c.args.self.now (c.args.number - 1) Withdrawn c.in_ok-cell.cell c.take.new.self
+    (withdrawing c.args.self.now c.args.number c.in_ok-cell.cell c.in_ok-cell.ensures c.take.new.self c.take.ensures.after)
 
 pub returns : goal.returns
 returns g c =
     let r = c.args.self.now in
-    let h = c.in-ok-cell.ensures in
-    let l : c.in-ok-cell.cell < length (vec_items r.cells) = omega (arith, h.within, r.cells.ok.0) in (
-      standing_open g.P.Places.reservoirs (vec_items r.cells) r.marks c.args.number c.in-ok-cell.cell _ c.in-Some.node
-          r.numbers h.marked l (sym c.index-mut.ensures.value ∙ sym c.take.ensures.value ∙ c.in-Some.is),
-      as_rolled _ _ _ (withdrawn_as g.P.Places.reservoirs r c.args.number c.in-ok-cell.cell c.take.new.self h c.take.ensures.after),
+    let h = c.in_ok-cell.ensures in
+    let l : c.in_ok-cell.cell < length (vec_items r.cells) = omega (arith, h.within, r.cells.ok.0) in (
+      standing_open g.P.Places.reservoirs (vec_items r.cells) r.marks c.args.number c.in_ok-cell.cell _ c.in-Some.node
+          r.numbers h.marked l (sym c.index_mut.ensures.value ∙ sym c.take.ensures.value ∙ c.in-Some.is),
+      as_rolled _ _ _ (withdrawn_as g.P.Places.reservoirs r c.args.number c.in_ok-cell.cell c.take.new.self h c.take.ensures.after),
     )

@@ -6,7 +6,7 @@ use Rattle.routing.proofs.gauged.Gauged.new.Goals as goal
 
 pub returns : goal.returns
 returns g c =
-    let e = ap held c.empty.ensures.all-zero in
+    let e = ap held c.empty.ensures.all_zero in
     let h = held_zeros (length (g.R.Reservoir.cells c.args.reservoir)) in
     record {
       zero = cc;

@@ -4,4 +4,4 @@ use Rattle.words.proofs.words.Words.next_signed.Goals as goal
 
 pub returns : goal.returns
 returns c =
-    next_number signed_form c.args.self.now c.next-word.new.self c.in-ok-next-word.field-0 c.in-ok-next-word.ensures _ c.signed.ensures
+    next_number signed_form c.args.self.now c.next_word.new.self c.in_ok-next_word.field-0 c.in_ok-next_word.ensures _ c.signed.ensures
