@@ -4,8 +4,8 @@ use Rattle.std.proofs.Common.{sym, ◌∙◌, ap, subst, arith}
 use Rattle.std.proofs.lemmas.List.{length-append, length-drop, length_push, length-take-le, length-map, get_or-map, get_or-take, map_push, drop-map, take-replicate, map_more, take_more_set, take-append-le, drop-take}
 use Rattle.quantity.specs.declared.water.Centilitres.{Centilitres}
 use Rattle.reservoir.specs.Cells.{capacity, held, emptied, volumes}
-use Rattle.reservoir.specs.Meaning.{Meaning}
-use Rattle.reservoir.specs.Makes.{lag}
+use Rattle.reservoir.specs.Meaning.{Meaning, Fits}
+use Rattle.reservoir.specs.Makes.{lag, steps}
 use Rattle.reservoir.specs.Lists.{held_zeros, held-++, held_split, at_most_first, at_most_drop, at_most-++}
 
 length_moved : (c : List ℕ) (v : ℕ) → 1 ≤ length c → length (drop 1 c ++ v ∷ []) ≡ length c
@@ -91,3 +91,6 @@ cleared_within n h = let e = ap held (cleared n h) in let f = held_zeros n in om
 -- as many cells as are in use
 pub length_used : (n : ℕ) (c : List Centilitres) → n ≤ length c → length (volumes (take n c)) ≡ n
 length_used n c h = length-map (take n c) (λ x. x.0) ∙ length-take-le n c h
+
+pub lag_fits : (n : ℕ) (c : List Centilitres) → length c ≡ 12 → (1 ≤ n) × (n ≤ 12) → Fits lag (steps n) (volumes (take n c))
+lag_fits n c twelve used = (used, length_used n c (omega arith))

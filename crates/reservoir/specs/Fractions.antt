@@ -2,8 +2,8 @@
 use Rattle.std.specs.Prelude.{◌≡◌, ℕ, ◌+◌, ◌-◌, ◌*◌, ◌≤◌, List, [], ◌∷◌, length, slice_index, refl}
 use Rattle.std.proofs.Common.{◌∙◌, ap, mul-le-mul_right, mul-add, arith}
 use Rattle.reservoir.specs.Cells.{held}
-use Rattle.reservoir.specs.Meaning.{Meaning}
-use Rattle.reservoir.specs.Makes.{linear, kept, setting}
+use Rattle.reservoir.specs.Meaning.{Meaning, Fits}
+use Rattle.reservoir.specs.Makes.{linear, fractions, kept, setting}
 use Rattle.reservoir.specs.Lists.{at_most_first}
 
 -- no more is kept than there is
@@ -41,3 +41,7 @@ linear_meaning = record {
       let x = kept_more (setting 0 s) (setting 1 s) (slice_index c 0) (slice_index d 0) v w f.0.0 f.0.1 (at_most_first c d h) k in
       (x.0, (x.1, tt));
 }
+
+pub linear_fits : (recession retention storage : ℕ) → (recession ≤ retention) × (retention ≤ 65535) →
+    Fits linear (fractions recession retention) (storage ∷ [])
+linear_fits recession retention storage valid = (valid, refl)

@@ -3,7 +3,7 @@ use Rattle.std.specs.Prelude.{◌≡◌, ℕ, ◌+◌, ◌≤◌, List, ◌++◌
 use Rattle.std.proofs.Common.{sym, ◌∙◌, ap, subst, arith}
 use Rattle.std.proofs.lemmas.List.{length-append, length-take-le, length-drop, take_at, drop_at}
 use Rattle.reservoir.specs.Cells.{held, AtMost}
-use Rattle.reservoir.specs.Meaning.{Settings, Make, Meaning, Fits, Accepts}
+use Rattle.reservoir.specs.Meaning.{Settings, joined, Make, Meaning, Fits, Accepts}
 use Rattle.reservoir.specs.Makes.{series, of_first, of_second}
 use Rattle.reservoir.specs.Lists.{held-++, held_split, at_most_take, at_most_drop, at_most-++}
 
@@ -56,3 +56,6 @@ series_meaning m n mm mn = record {
             (n.leaves (of_second s) (drop i d) (m.gives (of_first s) (take i d) w)) x.1 y.1,
       );
 }
+
+pub series_fits : (m n : Make) (s t : Settings) (c d : List ℕ) → Fits m s c → Fits n t d → Fits (series m n) (joined s t) (c ++ d)
+series_fits m n s t c d f g = let l = length-append c d in ((f.0, g.0), omega arith)

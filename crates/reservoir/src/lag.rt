@@ -5,8 +5,7 @@ ghost use Rattle.reservoir.specs.Answers.{Makes};
 ghost use Rattle.reservoir.specs.Cells.{capacity, held, volumes};
 ghost use Rattle.reservoir.specs.Makes.{lag, steps};
 ghost use Rattle.reservoir.specs.Meaning.{Accepts};
-ghost use Rattle.reservoir.specs.Delay.{lag_meaning, length_used};
-ghost use Rattle.std.proofs.Common.{arith};
+ghost use Rattle.reservoir.specs.Delay.{lag_fits, lag_meaning};
 
 use crate::fault::Fault;
 use crate::interface::Reservoir;
@@ -69,7 +68,7 @@ impl Reservoir for Lag {
 
     ghost meaning = { lag_meaning };
 
-    ghost fits = { λ r. let h : r.n ≤ length r.cells = omega arith in (r.used, length_used r.n r.cells h) };
+    ghost fits = { λ r. lag_fits r.n r.cells r.twelve r.used };
 
     fn content(&self) -> Centilitres {
         let mut sum = 0;

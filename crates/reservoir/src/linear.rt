@@ -5,8 +5,7 @@ ghost use Rattle.reservoir.specs.Answers.{Makes};
 ghost use Rattle.reservoir.specs.Cells.{capacity};
 ghost use Rattle.reservoir.specs.Makes.{linear, fractions, kept};
 ghost use Rattle.reservoir.specs.Meaning.{Accepts};
-ghost use Rattle.reservoir.specs.Fractions.{linear_meaning};
-ghost use Rattle.std.proofs.Common.{rules, arith};
+ghost use Rattle.reservoir.specs.Fractions.{linear_fits, linear_meaning};
 
 use crate::fault::Fault;
 use crate::interface::Reservoir;
@@ -59,7 +58,7 @@ impl Reservoir for Linear {
 
     ghost meaning = { linear_meaning };
 
-    ghost fits = { first_of (Prim.search rules, Prim.grind (arith, Self.row.coded.inj)) };
+    ghost fits = { λ r. linear_fits r.recession r.retention r.storage.0 r.fractions };
 
     fn content(&self) -> Centilitres {
         self.storage

@@ -5,9 +5,7 @@ ghost use Rattle.reservoir.specs.Cells.{emptied};
 ghost use Rattle.reservoir.specs.Makes.{series};
 ghost use Rattle.reservoir.specs.Meaning.{Accepts, joined};
 ghost use Rattle.std.specs.Prelude.{◌≡◌, ◌++◌};
-ghost use Rattle.reservoir.specs.Joining.{series_meaning};
-ghost use Rattle.std.proofs.Common.{arith};
-ghost use Rattle.std.proofs.lemmas.List.{length_append};
+ghost use Rattle.reservoir.specs.Joining.{series_fits, series_meaning};
 
 use crate::fault::Fault;
 use crate::interface::Reservoir;
@@ -53,10 +51,8 @@ impl<F: Reservoir, S: Reservoir> Reservoir for Series<F, S> {
 
     ghost meaning = { series_meaning F.Reservoir.make S.Reservoir.make F.Reservoir.meaning S.Reservoir.meaning };
 
-    ghost fits = { λ r.
-        let x = F.Reservoir.fits r.first in
-        let y = S.Reservoir.fits r.second in
-        let z = length_append (F.Reservoir.cells r.first) (S.Reservoir.cells r.second) in ((x.0, y.0), omega arith) };
+    ghost fits = { λ r. series_fits F.Reservoir.make S.Reservoir.make (F.Reservoir.settings r.first) (S.Reservoir.settings r.second)
+        (F.Reservoir.cells r.first) (S.Reservoir.cells r.second) (F.Reservoir.fits r.first) (S.Reservoir.fits r.second) };
 
     fn content(&self) -> Centilitres {
         self.first.content().plus(self.second.content())

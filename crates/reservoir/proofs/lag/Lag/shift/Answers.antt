@@ -6,7 +6,7 @@ pub invariant_of-self : goal.invariant_of-self
 invariant_of-self c =
     let h : c.args.self.now.n ≤ length c.args.self.now.cells = omega arith in
     let w = moved_within c.args.self.now.n c.args.self.now.cells c.rotate_left.new.self c.args.volume c.args.self.now.used.0 h c.rotate_left.ensures.after in
-    (simp length-set (omega arith), (c.args.self.now.used, (omega arith, tt)))
+    record { twelve = simp length-set (omega arith); used = c.args.self.now.used; within = omega arith }
 
 pub returns : goal.returns
 returns c =

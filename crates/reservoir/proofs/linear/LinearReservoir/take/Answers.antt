@@ -10,4 +10,4 @@ overflow_sub-result c =
 pub invariant_of-self : goal.invariant_of-self
 invariant_of-self c =
     let k = kept_at_most c.args.self.now.recession c.args.self.now.retention c.args.self.now.storage.0 c.args.volume.0 c.args.self.now.fractions.0 c.args.self.now.fractions.1 in
-    (c.args.self.now.fractions, (omega arith, tt))
+    record { fractions = c.args.self.now.fractions; within = omega arith }
