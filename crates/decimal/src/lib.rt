@@ -3,6 +3,7 @@
 // A number has the form that `{n}` prints: digits, with no sign and no leading zero.
 // It is below 10^18, so it has at most 18 digits and fits a `u64`.
 // The crate relies on `std` alone.
+#![tactic(auto)]
 
 ghost use Rattle.std.specs.Prelude.{◌≡◌, ◌≤◌, ◌↔◌, ◌++◌, length, None};
 ghost use Rattle.std.specs.Option.{SomeIff};

@@ -1,5 +1,6 @@
 // The program: makes a district of four cells, opens, steps, looks at and withdraws nodes, and prints what each call
 // answers, the refusals and the water balance.
+#![tactic(auto)]
 
 mod calls;
 mod nodes;

@@ -1,4 +1,5 @@
 // The worked figures: one table in specs/, and one theorem over it. Relies on the rules of the other crates.
+#![tactic(auto)]
 
 ghost use Rattle.figures.specs.Figures.{AllHold};
 ghost use Rattle.figures.specs.Table.{table};

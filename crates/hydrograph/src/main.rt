@@ -1,4 +1,5 @@
 // The program: reads a storm from standard input, routes it through three reservoirs and prints the hydrograph.
+#![tactic(auto)]
 
 mod page;
 mod refused;

@@ -1,5 +1,6 @@
 // The six reservoirs of a drainage node, one in each place, of any six makes: asked, filled and emptied together.
 // Relies on the reservoirs and the quantities.
+#![tactic(auto)]
 
 pub mod fault;
 pub mod interface;

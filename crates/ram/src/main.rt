@@ -1,4 +1,5 @@
 // The program: reads a run sheet from standard input and prints its page. Every sheet has a page.
+#![tactic(auto)]
 
 use equipment::ram::Ram;
 use page::page::{LARGEST_SHEET, page};

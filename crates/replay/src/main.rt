@@ -1,4 +1,5 @@
 // The program: for each run sheet that its arguments name, prints a line with the name and the page that `ram` prints.
+#![tactic(auto)]
 
 use equipment::ram::Ram;
 use page::page::page;
