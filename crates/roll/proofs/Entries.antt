@@ -24,26 +24,26 @@ use Rattle.roll.proofs.Changes.{Change, usable_changed, used_changed, alone_chan
 
 -- the facts of a roll's ghost fields
 abbrev pub Linked : {N : Type 0} → List Mark → List (Option N) → Type 0
-Linked marks cells = (length marks ≡ 256) × (Usable marks × (Used marks cells × (Alone marks × (Counted marks cells × Unit {0}))))
+Linked marks cells = record {
+  numbers : length marks ≡ 256;
+  usable : Usable marks;
+  used : Used marks cells;
+  alone : Alone marks;
+  counted : Counted marks cells;
+}
 
 module _ {P : Type 0} (r : Roll P) where
   abbrev items : List (Option (Node P))
   items = vec_items r.cells
 
   pub linked_changed : (j : ℕ) (m : Mark) (i : ℕ) (x : Option (Node P)) → Change r.marks items j m i x → Linked (set r.marks j m) (set items i x)
-  linked_changed j m i x c = (
-    length-set r.marks j m ∙ r.numbers,
-    (
-      usable_changed r.marks items j m i x c r.usable,
-      (
-        used_changed r.marks items j m i x c r.used,
-        (
-          alone_changed r.marks items j m i x c r.alone,
-          (counted_changed r.marks items j m i x c r.counted, tt),
-        ),
-      ),
-    ),
-  )
+  linked_changed j m i x c = record {
+    numbers = length-set r.marks j m ∙ r.numbers;
+    usable = usable_changed r.marks items j m i x c r.usable;
+    used = used_changed r.marks items j m i x c r.used;
+    alone = alone_changed r.marks items j m i x c r.alone;
+    counted = counted_changed r.marks items j m i x c r.counted;
+  }
 
   within_items : (i : ℕ) → i < vec_len r.cells → i < length items
   within_items i h = omega (arith, r.cells.ok.0)
@@ -172,16 +172,10 @@ none_used (suc n) (x ∷ xs) h =
     omega (arith, sum_by-cons (λ o. cond {A = ℕ} (is_some o) 1 0) x (take n xs))
 
 pub linked_new : {N : Type 0} (cells : List (Option N)) → ((k : ℕ) → k < length cells → is_some (get_or cells k None) ≡ false) → Linked (replicate 256 New) cells
-linked_new cells h = (
-  length-replicate 256 New,
-  (
-    (λ k i e. elim (none_open 256 k i e) [ ]),
-    (
-      (λ k i e. elim (none_open 256 k i e) [ ]),
-      (
-        (λ k j p. elim (none_open 256 k p.0 p.1.0) [ ]),
-        (none_counted 256 ∙ sym (none_used 64 cells h), tt),
-      ),
-    ),
-  ),
-)
+linked_new cells h = record {
+  numbers = length-replicate 256 New;
+  usable = λ k i e. elim (none_open 256 k i e) [ ];
+  used = λ k i e. elim (none_open 256 k i e) [ ];
+  alone = λ k j p. elim (none_open 256 k p.0 p.1.0) [ ];
+  counted = none_counted 256 ∙ sym (none_used 64 cells h);
+}

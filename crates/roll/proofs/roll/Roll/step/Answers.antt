@@ -10,9 +10,9 @@ pub invariant_of-self : goal.invariant_of-self
 invariant_of-self g c =
     linked_stepped c.args.self.now c.args.number c.in_ok-cell.cell c.in_ok-cell.ensures c.step.new.self
 
-pub returns-in-err-step : goal.returns-in-err-step
-returns-in-err-step g c =
-    let p = err_from_is_err_and c.from-residual-in-err-step.result c.from-residual-in-err-step.ensures.1 in
+pub returns-in_err-step-in-Some : goal.returns-in_err-step-in-Some
+returns-in_err-step-in-Some g c =
+    let p = err_from_is_err_and c.from_residual-in_err-step-in-Some.result c.from_residual-in_err-step-in-Some.ensures.1 in
     let r = c.args.self.now in
     let h = c.in_ok-cell.ensures in
     let l : c.in_ok-cell.cell < length (vec_items r.cells) = omega (arith, h.within, r.cells.ok.0) in
@@ -22,7 +22,7 @@ returns-in-err-step g c =
     (standing_open g.P.Places.reservoirs (vec_items r.cells) r.marks c.args.number c.in_ok-cell.cell _ c.in-Some.node
     r.numbers h.marked l (sym c.index_mut.ensures.value ∙ c.in-Some.is))
     (as_rolled _ _ _ (stepped_as g.P.Places.reservoirs r c.args.number c.in_ok-cell.cell c.step.new.self h))
-    _ h.marked.from_one c.in-err-step.ensures)
+    _ h.marked.from_one c.in_err-step-in-Some.ensures)
 
 pub returns : goal.returns
 returns g c =
@@ -34,4 +34,4 @@ returns g c =
     (standing_open g.P.Places.reservoirs (vec_items r.cells) r.marks c.args.number c.in_ok-cell.cell _ c.in-Some.node
     r.numbers h.marked l (sym c.index_mut.ensures.value ∙ c.in-Some.is))
     (as_rolled _ _ _ (stepped_as g.P.Places.reservoirs r c.args.number c.in_ok-cell.cell c.step.new.self h))
-    _ c.in-ok-step.ensures
+    _ c.in_ok-step-in-Some.ensures
