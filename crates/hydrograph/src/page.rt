@@ -6,11 +6,9 @@ use quantity::water::Centilitres;
 use reservoir::interface::Reservoir;
 use routing::gauged::Gauged;
 use routing::side_by_side::Step;
-use std::alloc::Global;
-use std::fmt;
-use std::fmt::Write;
+use std::alloc::{AllocError, Global};
 
-pub fn page_of(heap: Global, storm: &[u8]) -> Result<String, fmt::Error> {
+pub fn page_of(heap: Global, storm: &[u8]) -> Result<String, AllocError> {
     let mut page = String::new(heap);
     let mut reader = Reader::new(storm);
     let Some(first) = next_entry(&mut reader) else {
@@ -36,7 +34,7 @@ fn write_steps(
     page: &mut String,
     reader: &mut Reader<'_>,
     reservoirs: &mut Reservoirs,
-) -> fmt::Result {
+) -> Result<(), AllocError> {
     write_heading(page)?;
     while let Some(line) = next_entry(reader) {
         match route(reservoirs, line.bytes) {
@@ -50,7 +48,7 @@ fn write_steps(
     Ok(())
 }
 
-fn write_heading(page: &mut String) -> fmt::Result {
+fn write_heading(page: &mut String) -> Result<(), AllocError> {
     writeln!(
         page,
         "{:24}{:>32}{:>32}{:>32}",
@@ -63,7 +61,12 @@ fn write_heading(page: &mut String) -> fmt::Result {
     writeln!(page)
 }
 
-fn write_row(page: &mut String, line: usize, volume: Centilitres, step: &Step) -> fmt::Result {
+fn write_row(
+    page: &mut String,
+    line: usize,
+    volume: Centilitres,
+    step: &Step,
+) -> Result<(), AllocError> {
     let taken = volume.0;
     write!(page, "{line:>8}{taken:>16}")?;
     for passage in [step.first, step.second, step.third] {
@@ -74,7 +77,11 @@ fn write_row(page: &mut String, line: usize, volume: Centilitres, step: &Step) -
     writeln!(page)
 }
 
-fn write_balance<R: Reservoir>(page: &mut String, name: &str, gauged: &Gauged<R>) -> fmt::Result {
+fn write_balance<R: Reservoir>(
+    page: &mut String,
+    name: &str,
+    gauged: &Gauged<R>,
+) -> Result<(), AllocError> {
     let taken = gauged.taken.0;
     let given = gauged.given.0;
     let held = gauged.reservoir.content().0;
