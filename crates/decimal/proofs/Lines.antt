@@ -2,7 +2,7 @@
 use Rattle.std.proofs.Common.{◌≡◌, ℕ, zero, suc, ◌+◌, ◌^◌, ◌<◌, ◌≤◌, List, [], ◌∷◌, ◌++◌, map, length, get_or, take, drop, set, replicate, Some, None, decimal, Option, sym, refl, ap, ◌∙◌, arith, length-set, take-append-drop, length-take, Bor}
 use lib.ListN.{length-replicate}
 use Rattle.std.specs.Str.Iter.{LacksByte}
-use Rattle.std.specs.List.{join_with_byte, flat_map, AllByRecursion as All}
+use Rattle.std.specs.List.{join_with_byte, flat_map, AllByRecursion}
 use Rattle.std.proofs.lemmas.Fmt.{decimal_injective}
 use Rattle.std.proofs.ByRecursion.{All-get_or, All-set, All-take}
 use Rattle.std.proofs.lemmas.List.{append-nil, append_assoc, at_drop_more, at_drop_all, drop_all, drop_more, flat_map_more, length-take-le, nil_from_length, take_all, take_more_set}
@@ -56,7 +56,7 @@ rejoined_from_spaced line [] e = let z : ◌≡◌ {A = ℕ} 0 1 = cc in absurd 
 rejoined_from_spaced line (n ∷ ns) e = cc (rejoined_spaced n ns)
 
 abbrev Below : List ℕ → Type 0
-Below ns = All (λ n. n < 10 ^ 18) ns
+Below ns = AllByRecursion (λ n. n < 10 ^ 18) ns
 
 zeros_below : (count : ℕ) → Below (replicate count 0)
 zeros_below zero = tt
