@@ -1,7 +1,7 @@
 -- The lines of a text are exactly those that are laid out as it.
 use Rattle.std.proofs.Common.{◌≡◌, ℕ, zero, suc, ◌<◌, List, [], ◌∷◌, ◌++◌, length, sym, refl, ap, ◌∙◌, subst, inl, inr, ⊎_elim, arith, eq-eqb, ne_eqb}
 use Rattle.std.specs.Str.Iter.{LacksByte}
-use Rattle.std.specs.List.{AllByRecursion as All}
+use Rattle.std.specs.List.{AllByRecursion}
 use Rattle.std.proofs.lemmas.List.{append_assoc, length-append}
 use Rattle.std.proofs.lemmas.Bool.{cases_eq}
 use Rattle.lines.specs.Lines.{extended, lines_of, ended, Unended, LaidOut, LinesAreLaidOut}
@@ -27,12 +27,12 @@ lines_one (b ∷ []) filled lacks = rw (ne_eqb b 10 (lacks 0 (omega arith))) ref
 lines_one (b ∷ d ∷ l) filled lacks =
     rw (ne_eqb b 10 (lacks 0 (omega arith))) (ap (extended b) (lines_one (d ∷ l) (omega arith) (rest_lacks b (d ∷ l) lacks)))
 
-lines_ended : (ls : List (List ℕ)) → All (LacksByte 10) ls → lines_of (ended ls) ≡ ls
+lines_ended : (ls : List (List ℕ)) → AllByRecursion (LacksByte 10) ls → lines_of (ended ls) ≡ ls
 unfolding lines_of
 lines_ended [] lack = refl
 lines_ended (l ∷ ls) (lacks, lack) = lines_front l (ended ls) lacks ∙ ap (λ m. l ∷ m) (lines_ended ls lack)
 
-lines_unended : (others : List (List ℕ)) (last : List ℕ) → 0 < length last → All (LacksByte 10) (others ++ (last ∷ [])) → lines_of (ended others ++ last) ≡ others ++ (last ∷ [])
+lines_unended : (others : List (List ℕ)) (last : List ℕ) → 0 < length last → AllByRecursion (LacksByte 10) (others ++ (last ∷ [])) → lines_of (ended others ++ last) ≡ others ++ (last ∷ [])
 lines_unended [] last filled (lacks, _) = lines_one last filled lacks
 lines_unended (l ∷ others) last filled (lacks, lack) =
     ap lines_of (append_assoc (l ++ (10 ∷ [])) (ended others) last) ∙ lines_front l (ended others ++ last) lacks ∙ ap (λ m. l ∷ m) (lines_unended others last filled lack)
@@ -40,7 +40,7 @@ lines_unended (l ∷ others) last filled (lacks, lack) =
 lines_laid_out : (text : List ℕ) (ls : List (List ℕ)) → LaidOut text ls → lines_of text ≡ ls
 lines_laid_out text ls (lack, inl e) = ap lines_of e ∙ lines_ended ls lack
 lines_laid_out text ls (lack, inr u) =
-    ap lines_of u.bytes ∙ lines_unended u.others u.last u.filled (subst (All (LacksByte 10)) u.lines lack) ∙ sym u.lines
+    ap lines_of u.bytes ∙ lines_unended u.others u.last u.filled (subst (AllByRecursion (LacksByte 10)) u.lines lack) ∙ sym u.lines
 
 after_break : (text : List ℕ) (ls : List (List ℕ)) → LaidOut text ls → LaidOut (10 ∷ text) ([] ∷ ls)
 after_break text ls (lack, way) = (

@@ -1,9 +1,9 @@
 -- The lines of a text of bytes. The byte 10 ends a line; after the last line it may be missing.
--- The standard library has `joined f xs`, which is f of each element of xs, one after another; `All P xs`, that P holds of each
--- element; and `Lacks 10 l`, that the byte 10 is not in l.
+-- The standard library has `flat_map f xs`, which is f of each element of xs, one after another; `AllByRecursion P xs`, that P
+-- holds of each element; and `LacksByte 10 l`, that the byte 10 is not in l.
 use Rattle.std.specs.Prelude.{◌≡◌, ℕ, ◌<◌, ◌≤◌, cond, ◌⊎◌, ◌↔◌, List, [], ◌∷◌, ◌++◌, length, ◌==◌, ◌≢◌, slice_index}
 use Rattle.std.specs.Str.Iter.{LacksByte}
-use Rattle.std.specs.List.{flat_map, AllByRecursion as All}
+use Rattle.std.specs.List.{flat_map, AllByRecursion}
 
 -- lines with a byte put before the first of them; where there is none, the byte is a line
 abbrev pub extended : ℕ → List (List ℕ) → List (List ℕ)
@@ -29,7 +29,7 @@ pub record Unended (text : List ℕ) (ls : List (List ℕ)) : Type 0 where
 
 -- The lines have no byte 10, and are laid out as the text: with the byte 10 after each or, where the last is not empty, with none after it.
 abbrev pub LaidOut : List ℕ → List (List ℕ) → Type 0
-LaidOut text ls = All (LacksByte 10) ls × ((text ≡ ended ls) ⊎ Unended text ls)
+LaidOut text ls = AllByRecursion (LacksByte 10) ls × ((text ≡ ended ls) ⊎ Unended text ls)
 
 -- The lines of a text are exactly those that are laid out as the text.
 abbrev pub LinesAreLaidOut : Type 0

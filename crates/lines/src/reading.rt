@@ -77,7 +77,7 @@ mod tests {
         assert!(rt; reader.next_line().is_some());
         let line = reader.next_line().ok_or("no second line")?;
         assert_eq!(rt; line.number, 2);
-        assert!(rt; line.bytes == b"last");
+        assert!(rt; line.bytes == b"last".as_slice());
         Ok(())
     }
 

@@ -7,7 +7,7 @@ use Rattle.lines.proofs.reader.Reader.new.Goals as goal
 pub returns : goal.returns
 returns c = record {
   same_text = refl;
-  all-ahead = refl;
+  all_ahead = refl;
   none_counted = refl;
   hands_out_in_order = hands_out_in_order _ _ refl refl;
   hands_out_all = hands_out_all _ _ refl refl;
