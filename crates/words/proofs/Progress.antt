@@ -1,7 +1,7 @@
 -- What `naturals` has read.
 use Rattle.std.proofs.Common.{◌≡◌, ℕ, zero, suc, ◌+◌, ◌^◌, ◌<◌, List, [], ◌∷◌, ◌++◌, map, length, get_or, take, drop, set, replicate, Some, None, decimal, refl, ap, ◌∙◌, arith, length-set}
 use lib.ListN.{length-replicate}
-use Rattle.std.specs.List.{AllByRecursion as All}
+use Rattle.std.specs.List.{AllByRecursion}
 use Rattle.std.proofs.ByRecursion.{All-get_or, All-set}
 use Rattle.std.proofs.lemmas.List.{append-nil, append_assoc, at_drop_more, at_drop_all, drop_all, drop_more, flat_map_more, map_push, nil_from_length, take_all, take_more_set}
 use Rattle.decimal.specs.Reading.{SomeExactly}
@@ -11,7 +11,7 @@ use Rattle.words.specs.Readings.{NextNumber, NoNumber}
 use Rattle.words.proofs.Numbers.{natural_form, not_unread, read_next}
 
 abbrev Below : List ℕ → Type 0
-Below ns = All (λ n. n < 10 ^ 9) ns
+Below ns = AllByRecursion (λ n. n < 10 ^ 9) ns
 
 zeros_below : (count : ℕ) → Below (replicate count 0)
 zeros_below zero = tt

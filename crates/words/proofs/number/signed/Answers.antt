@@ -5,32 +5,32 @@ use Rattle.std.proofs.lemmas.Int.{ints}
 use Rattle.words.proofs.Forms.{minus_none, minus_some, signed_some}
 use Rattle.words.proofs.number.signed.Goals as goal
 
-pub returns-in-err-size : goal.returns-in-err-size
-returns-in-err-size c =
+pub returns-in_err-size-in-45 : goal.returns-in_err-size-in-45
+returns-in_err-size-in-45 c =
     rw c.from_residual.ensures (minus_none (first_rest c.args.word.now 0 (omega (arith, ltb-false))) (omega arith)
-    (λ n writes. let e = (c.in-err-size.ensures (suc n)).1 writes in let z : ◌≡◌ {A = ℕ} 0 1 = cc in omega arith))
+    (λ n writes. let e = (c.in_err-size-in-45.ensures (suc n)).1 writes in let z : ◌≡◌ {A = ℕ} 0 1 = cc in omega arith))
 
 pub overflow_cast-result : goal.overflow_cast-result
-overflow_cast-result c = omega (arith, ints, ((c.in-ok-size.ensures _).0 refl).0)
+overflow_cast-result c = omega (arith, ints, ((c.in_ok-size-in-45.ensures _).0 refl).0)
 
 pub overflow_sub-result : goal.overflow_sub-result
-overflow_sub-result c = omega (arith, ints, ((c.in-ok-size.ensures _).0 refl).0)
+overflow_sub-result c = omega (arith, ints, ((c.in_ok-size-in-45.ensures _).0 refl).0)
 
 pub overflow_cast-result-in_default : goal.overflow_cast-result-in_default
-overflow_cast-result-in_default c = omega (arith, ints, ((c.in-ok-natural.ensures _).0 refl).0)
+overflow_cast-result-in_default c = omega (arith, ints, ((c.in_ok-natural-in_default.ensures _).0 refl).0)
 
 pub returns-in-0 : goal.returns-in-0
 returns-in-0 c =
     minus_none (first_rest c.args.word.now 0 (omega (arith, ltb-false))) (omega arith)
-    (λ n writes. let e : c.in-ok-size.size ≡ suc n = cc ((c.in-ok-size.ensures (suc n)).1 writes) in omega arith)
+    (λ n writes. let e : c.in_ok-size-in-45.size ≡ suc n = cc ((c.in_ok-size-in-45.ensures (suc n)).1 writes) in omega arith)
 
 pub returns-in_default-2 : goal.returns-in_default-2
 returns-in_default-2 c =
-    let writes = (c.in-ok-size.ensures _).0 refl in
-    minus_some (first_rest c.args.word.now 0 (omega (arith, ltb-false))) (omega arith) c.in-ok-size.size _ (omega arith) writes (omega (arith, ints, writes.0))
+    let writes = (c.in_ok-size-in-45.ensures _).0 refl in
+    minus_some (first_rest c.args.word.now 0 (omega (arith, ltb-false))) (omega arith) c.in_ok-size-in-45.size _ (omega arith) writes (omega (arith, ints, writes.0))
 
-pub returns-in-ok-natural : goal.returns-in-ok-natural
-returns-in-ok-natural c =
-    let writes = (c.in-ok-natural.ensures _).0 refl in
-    let is : to_z w32 c.in-ok-natural.field-0 ≡ pos c.in-ok-natural.field-0 = omega (arith, ints, writes.0) in
-    rw is (signed_some _ (pos c.in-ok-natural.field-0) writes)
+pub returns-in_ok-natural-in_default : goal.returns-in_ok-natural-in_default
+returns-in_ok-natural-in_default c =
+    let writes = (c.in_ok-natural-in_default.ensures _).0 refl in
+    let is : to_z w32 c.in_ok-natural-in_default.field-0 ≡ pos c.in_ok-natural-in_default.field-0 = omega (arith, ints, writes.0) in
+    rw is (signed_some _ (pos c.in_ok-natural-in_default.field-0) writes)
