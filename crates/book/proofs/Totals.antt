@@ -1,6 +1,6 @@
 -- In a sound district every total is far below the largest of its account, so that no sum is cut off.
 use Rattle.std.proofs.Common.{◌≡◌, ℕ, ◌+◌, ◌*◌, ◌^◌, ◌<◌, ◌≤◌, List, [], ◌∷◌, refl, arith}
-use Rattle.std.specs.List.{AllByRecursion as All}
+use Rattle.std.specs.List.{AllByRecursion}
 use Rattle.std.proofs.ByRecursion.{All-weaker}
 use Rattle.card.specs.Limits.{largest_concentration}
 use Rattle.model.specs.Booking.{plus_loads, book_opening, book_step, book_withdrawal}
@@ -15,7 +15,7 @@ use Rattle.reservoir.specs.Meaning.{Make}
 use Rattle.book.specs.Books.{plus_water, plus_mass, plus_masses, opening_kept, step_kept, withdrawal_kept}
 
 -- sums of loads
-exact_loads : (xs ys : List ℕ) → All (λ l. l < 2 ^ 64 * gram) (plus_loads xs ys) → plus_masses xs ys ≡ plus_loads xs ys
+exact_loads : (xs ys : List ℕ) → AllByRecursion (λ l. l < 2 ^ 64 * gram) (plus_loads xs ys) → plus_masses xs ys ≡ plus_loads xs ys
 exact_loads [] ys h = refl
 exact_loads (x ∷ xs) [] h = refl
 exact_loads (x ∷ xs) (y ∷ ys) h =

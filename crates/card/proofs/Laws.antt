@@ -1,6 +1,6 @@
 -- The laws of nutrient loads.
 use Rattle.std.proofs.Common.{ℕ, ◌*◌, ◌≤◌, List, [], ◌∷◌, map, sum}
-use Rattle.std.specs.List.{AllByRecursion as All}
+use Rattle.std.specs.List.{AllByRecursion}
 use Rattle.reservoir.specs.Cells.{AtMost}
 use Rattle.card.specs.Limits.{largest_concentration}
 use Rattle.card.specs.Loads.{nutrients, in_each_flow, nutrient_load}
@@ -11,7 +11,7 @@ at_most_map : (f g : ℕ → ℕ) → ((n : ℕ) → f n ≤ g n) → (ns : List
 at_most_map f g h [] = tt
 at_most_map f g h (n ∷ ns) = (h n, at_most_map f g h ns)
 
-all_map : (P : ℕ → Type 0) (f : ℕ → ℕ) → ((n : ℕ) → P (f n)) → (ns : List ℕ) → All P (map f ns)
+all_map : (P : ℕ → Type 0) (f : ℕ → ℕ) → ((n : ℕ) → P (f n)) → (ns : List ℕ) → AllByRecursion P (map f ns)
 all_map P f h [] = tt
 all_map P f h (n ∷ ns) = (h n, all_map P f h ns)
 

@@ -1,7 +1,7 @@
 -- A new district is sound, and every proper call keeps it so.
 use Rattle.std.proofs.Common.{◌≡◌, ℕ, zero, suc, cond, List, [], ◌∷◌, length, replicate, sum_by, refl, arith}
 use lib.ListN.{length-replicate}
-use Rattle.std.specs.List.{AllByRecursion as All}
+use Rattle.std.specs.List.{AllByRecursion}
 use Rattle.std.proofs.ByRecursion.{All-set}
 use Rattle.std.proofs.lemmas.List.{length-set}
 use Rattle.std.proofs.lemmas.List.Sums.{sum_by-cons}
@@ -88,7 +88,7 @@ new_sum : (f : Standing → ℕ) → f new ≡ 0 → (n : ℕ) → sum_by f (rep
 new_sum f h zero = refl
 new_sum f h (suc n) = omega (arith, sum_by-cons f new (replicate n new), new_sum f h n)
 
-new_standings : (makes : List Make) (n : ℕ) → All (SoundStanding makes) (replicate n new)
+new_standings : (makes : List Make) (n : ℕ) → AllByRecursion (SoundStanding makes) (replicate n new)
 new_standings makes zero = tt
 new_standings makes (suc n) = (tt, new_standings makes n)
 

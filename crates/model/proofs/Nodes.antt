@@ -1,6 +1,6 @@
 -- Opened and stepped nodes are sound; and loads within their bound.
 use Rattle.std.proofs.Common.{◌≡◌, ℕ, ◌+◌, ◌*◌, ◌≤◌, List, [], ◌∷◌, length, sum, refl, ap, ◌∙◌, subst, arith}
-use Rattle.std.specs.List.{AllByRecursion as All}
+use Rattle.std.specs.List.{AllByRecursion}
 use Rattle.std.proofs.ByRecursion.{All-weaker}
 use Rattle.std.proofs.lemmas.List.Sums.{sum_by-cons}
 use Rattle.card.specs.Limits.{largest_concentration}
@@ -60,8 +60,8 @@ pub opened_storage : (c : Card) (ss : List State) → storage (opened c ss) ≡ 
 opened_storage c ss = let h = emptied_total ss in omega arith
 
 -- loads within m times a, and more loads within m times b, are together within m times both
-pub plus_loads_within : (m a b : ℕ) (xs ys : List ℕ) → All (λ x. x ≤ m * a) xs → All (λ y. y ≤ m * b) ys →
-    All (λ z. z ≤ m * (a + b)) (plus_loads xs ys)
+pub plus_loads_within : (m a b : ℕ) (xs ys : List ℕ) → AllByRecursion (λ x. x ≤ m * a) xs → AllByRecursion (λ y. y ≤ m * b) ys →
+    AllByRecursion (λ z. z ≤ m * (a + b)) (plus_loads xs ys)
 plus_loads_within m a b [] ys h k = tt
 plus_loads_within m a b (x ∷ xs) [] h k =
     All-weaker (λ l. l ≤ m * a) (λ l. l ≤ m * (a + b)) (λ l g. omega arith) (x ∷ xs) h
@@ -69,8 +69,8 @@ plus_loads_within m a b (x ∷ xs) (y ∷ ys) h k =
     let g = h.0 in let l = k.0 in (omega arith, plus_loads_within m a b xs ys h.1 k.1)
 
 pub yield_loads_within : (makes : List Make) (n : Store) (f : Forcing) → Checked n.card →
-    All (λ load. load ≤ largest_concentration * total (yield_of makes n f).flows) (yield_of makes n f).loads
+    AllByRecursion (λ load. load ≤ largest_concentration * total (yield_of makes n f).flows) (yield_of makes n f).loads
 yield_loads_within makes n f checked =
     let flows = flows_of makes n f in
-    let P : ℕ → Type 0 = λ t. All (λ load. load ≤ largest_concentration * t) (yield_of makes n f).loads in
+    let P : ℕ → Type 0 = λ t. AllByRecursion (λ load. load ≤ largest_concentration * t) (yield_of makes n f).loads in
     subst P (sum_total flows) (loads_bounded flows n.card.concentrations.by_flow checked.concentrations)

@@ -1,6 +1,6 @@
 -- A roll read and changed at one number.
 use Rattle.std.proofs.Common.{◌≡◌, ℕ, zero, suc, ◌+◌, ◌-◌, ◌<◌, ◌≤◌, List, length, get_or, set, sum_by, sym, refl, ◌∙◌, subst, ⊎_elim, arith}
-use Rattle.std.specs.List.{AllByRecursion as All}
+use Rattle.std.specs.List.{AllByRecursion}
 use Rattle.std.proofs.ByRecursion.{All-get_or}
 use Rattle.std.proofs.lemmas.List.{get_or-set_same, get_or-set_other, get_or_past}
 use Rattle.std.proofs.lemmas.List.Sums.{sum_by-set}
@@ -48,5 +48,5 @@ pub sum_entered : (f : Standing → ℕ) (roll : List Standing) (k : ℕ) (x s :
 sum_entered f roll k x s h = rw (← h.is) (sum_by-set f roll (k - 1) s outside h.in_roll)
 
 -- what holds of all standings of a roll holds of the one that stands there
-pub all_stand : (P : Standing → Type 0) (roll : List Standing) (k : ℕ) (x : Standing) → Stands roll k x → All P roll → P x
+pub all_stand : (P : Standing → Type 0) (roll : List Standing) (k : ℕ) (x : Standing) → Stands roll k x → AllByRecursion P roll → P x
 all_stand P roll k x h all = subst P h.is (All-get_or P roll (k - 1) outside h.in_roll all)

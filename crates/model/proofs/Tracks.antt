@@ -1,6 +1,6 @@
 -- The steps of two numbers are pairs of steps of their nodes.
 use Rattle.std.proofs.Common.{◌≡◌, ℕ, eqb, List, [], ◌∷◌, ◌++◌, length, replicate, sym, refl, ap, ◌∙◌, subst, ap₂, subst₂, arith}
-use Rattle.std.specs.List.{AllByRecursion as All}
+use Rattle.std.specs.List.{AllByRecursion}
 use Rattle.std.proofs.lemmas.Bool.{cond_both, eqb-true, eqb-false}
 use Rattle.card.specs.declared.card.Card.{Card}
 use Rattle.ground.specs.Laws.{Wetter}
@@ -51,7 +51,7 @@ Follows makes k n (p ∷ ps) =
 no_opening : (roll : List Standing) (k : ℕ) (n : Store) → standing roll k ≡ open_with n → standing roll k ≡ new → ⊥
 no_opening roll k n e w = let z : ◌≡◌ {A = ℕ} 0 1 = cc in omega arith
 
-follows : (makes : List Make) (k : ℕ) (d : District) (n : Store) (calls : List Call) → standing d.roll k ≡ open_with n → All (NoWithdrawalOf k) calls →
+follows : (makes : List Make) (k : ℕ) (d : District) (n : Store) (calls : List Call) → standing d.roll k ≡ open_with n → AllByRecursion (NoWithdrawalOf k) calls →
     Follows makes k n (steps_of makes d k calls)
 follows makes k d n [] e h = tt
 follows makes k d n (opening i c ss ∷ calls) e h =

@@ -1,6 +1,6 @@
 -- The laws of a district, of a list of makes. They hold where each make has a reservoir's meaning.
 use Rattle.std.specs.Prelude.{◌≡◌, ℕ, ◌*◌, ◌≤◌, min, List, map, Result}
-use Rattle.std.specs.List.{AllByRecursion as All}
+use Rattle.std.specs.List.{AllByRecursion}
 use Rattle.card.specs.Limits.{largest_concentration}
 use Rattle.card.specs.declared.card.Card.{Card}
 use Rattle.ground.specs.declared.forcing.Forcing.{Forcing}
@@ -39,7 +39,7 @@ abbrev pub MoreRainThroughDistricts : List Make → Type 0
 MoreRainThroughDistricts makes = (d e : District) (j k : ℕ) (c : Card) (ss ts : List State) (v w : ℕ) (calls others : List Call) →
     Proper makes (opening j c ss) → Proper makes (opening k c ts) → each_settings ss ≡ each_settings ts →
     (does makes d (opening j c ss)).answer ≡ granted v → (does makes e (opening k c ts)).answer ≡ granted w →
-    All (NoWithdrawalOf j) calls → All (NoWithdrawalOf k) others →
+    AllByRecursion (NoWithdrawalOf j) calls → AllByRecursion (NoWithdrawalOf k) others →
     WetterInPairs (steps_of makes (does makes d (opening j c ss)).after j calls) (steps_of makes (does makes e (opening k c ts)).after k others) →
     NoLessInPairs (steps_of makes (does makes d (opening j c ss)).after j calls) (steps_of makes (does makes e (opening k c ts)).after k others)
 
@@ -85,7 +85,7 @@ pub record TotalsWithin (r : Reading) : Type 0 where
   pub ceded : r.totals.ceded ≤ largest_income
   pub storage : r.storage ≤ largest_income
   pub loads : LoadsWithin r.totals
-  pub largest_load : All (λ load. load ≤ largest_concentration * largest_income) r.totals.loads
+  pub largest_load : AllByRecursion (λ load. load ≤ largest_concentration * largest_income) r.totals.loads
 
 -- every reservoir of every open node is within its capacity
 abbrev pub ReservoirsWithin : District → Type 0

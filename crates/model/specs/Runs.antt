@@ -1,6 +1,6 @@
 -- Lists of calls to a district, one after the other.
 use Rattle.std.specs.Prelude.{List, [], ◌∷◌}
-use Rattle.std.specs.List.{AllByRecursion as All}
+use Rattle.std.specs.List.{AllByRecursion}
 use Rattle.card.specs.Limits.{AreasWithin, ConcentrationsWithin}
 use Rattle.card.specs.declared.card.Card.{Card}
 use Rattle.ground.specs.Limits.{Admissible}
@@ -25,7 +25,7 @@ Proper makes (looking k) = Unit {0}
 Proper makes reading = Unit {0}
 
 abbrev pub AllProper : List Make → List Call → Type 0
-AllProper makes calls = All (Proper makes) calls
+AllProper makes calls = AllByRecursion (Proper makes) calls
 
 -- the district that a list of calls leaves, refused ones among them
 abbrev pub after_all : List Make → District → List Call → District

@@ -1,6 +1,6 @@
 -- What every district keeps that was new and got proper calls.
 use Rattle.std.specs.Prelude.{◌≡◌, ◌*◌, ◌≤◌, List, length}
-use Rattle.std.specs.List.{AllByRecursion as All}
+use Rattle.std.specs.List.{AllByRecursion}
 use Rattle.card.specs.Limits.{largest_concentration}
 use Rattle.node.specs.Laws as node
 use Rattle.node.specs.Stores.{Store}
@@ -14,7 +14,7 @@ use Rattle.model.specs.Balance.{Closes}
 
 -- no reservoir holds more than its capacity
 abbrev pub WithinCapacity : List State → Type 0
-WithinCapacity reservoirs = All (λ volume. volume ≤ capacity) (each_holds reservoirs)
+WithinCapacity reservoirs = AllByRecursion (λ volume. volume ≤ capacity) (each_holds reservoirs)
 
 pub record SoundNode (makes : List Make) (n : Store) : Type 0 where
   pub card : Checked n.card
@@ -29,11 +29,11 @@ SoundStanding makes withdrawn = Unit {0}
 
 -- no load is above what everything discharged carries at the largest concentration
 abbrev pub LoadsWithin : Book → Type 0
-LoadsWithin b = All (λ load. load ≤ largest_concentration * b.discharged) b.loads
+LoadsWithin b = AllByRecursion (λ load. load ≤ largest_concentration * b.discharged) b.loads
 
 pub record Sound (makes : List Make) (d : District) : Type 0 where
   pub numbers : length d.roll ≡ number_count
-  pub standings : All (SoundStanding makes) d.roll
+  pub standings : AllByRecursion (SoundStanding makes) d.roll
   -- each open number has a cell
   pub cells : open_count d.roll ≤ usable_cells d
   pub closes : Closes (reading_of d)
