@@ -1,6 +1,6 @@
 -- The kind of a line: its first byte, with the other bytes ahead.
 use Rattle.std.specs.Prelude.{◌≡◌, ℕ, List, [], ◌∷◌, ◌≢◌}
-use Rattle.std.specs.List.{AllByRecursion as All}
+use Rattle.std.specs.List.{AllByRecursion}
 use Rattle.words.specs.Readings.{ahead}
 use Rattle.command.specs.Letters.{letters, letter_o, letter_g, letter_k, letter_c, letter_s, letter_w, letter_r, mark}
 use Rattle.command.specs.declared.kind.Kind.{Kind}
@@ -16,4 +16,4 @@ OfKind line (Concentrations words) = line ≡ letter_c ∷ ahead words
 OfKind line (Step words) = line ≡ letter_s ∷ ahead words
 OfKind line (Withdrawal words) = line ≡ letter_w ∷ ahead words
 OfKind line (Reading words) = line ≡ letter_r ∷ ahead words
-OfKind line (Other words) = (first : ℕ) × (line ≡ first ∷ ahead words) × All (λ l. first ≢ l) letters
+OfKind line (Other words) = (first : ℕ) × (line ≡ first ∷ ahead words) × AllByRecursion (λ l. first ≢ l) letters

@@ -5,7 +5,7 @@ use Rattle.card.specs.declared.areas.Areas.{Areas}
 use Rattle.ground.specs.declared.soil.Soil.{Soil}
 use Rattle.quantity.specs.declared.load.Concentration.{Concentration}
 use Rattle.std.specs.Fmt.{signed_decimal}
-use Rattle.std.specs.List.{flat_map, AllByRecursion as All}
+use Rattle.std.specs.List.{flat_map, AllByRecursion}
 use Rattle.words.specs.Numbers.{spaced}
 use Rattle.command.specs.Letters.{letter_o, letter_g, letter_k, letter_c, letter_s, letter_w, letter_r}
 use Rattle.command.specs.declared.command.Command.{Command}
@@ -52,7 +52,7 @@ written command = letter command ∷ spaced (words command)
 
 -- numbers of at most nine digits
 abbrev pub NineDigits : List ℕ → Type 0
-NineDigits ns = All (λ n. n < 10 ^ 9) ns
+NineDigits ns = AllByRecursion (λ n. n < 10 ^ 9) ns
 
 -- Every number of the command has at most nine digits, and its lists are complete.
 abbrev pub Writable : Command → Type 0
