@@ -11,7 +11,7 @@ use Rattle.page.proofs.page.page.Goals as goal
 pub loop-line-init : goal.loop-line-init
 loop-line-init g c =
     let reader = c.new-reader.ensures in (
-      rw c.new-page.ensures.items (starts g.Nodes.Places.makes g.E.Equipment.equipped _ _ _ _ reader.all_ahead reader.none_counted c.new-session.ensures.sound),
+      rw c.new-page.ensures.items (starts g.E.Nodes.Places.makes g.E.Equipment.equipped _ _ _ _ reader.all_ahead reader.none_counted c.new-session.ensures.sound),
       ap (λ x. x.now) reader.same_text,
     )
 
@@ -19,7 +19,7 @@ pub loop-line-preserved : goal.loop-line-preserved
 loop-line-preserved g c =
     let next = c.in-Some.ensures in
     let inv = c.loop-line.invariant in (
-      goes_on g.Nodes.Places.makes g.E.Equipment.equipped _ _ _ _ _ _ _ _ _ _ _ _ c.read.result (told c.run-answer.result) inv.0
+      goes_on g.E.Nodes.Places.makes g.E.Equipment.equipped _ _ _ _ _ _ _ _ _ _ _ _ c.read.result (told c.run-answer.result) inv.0
           next.0 next.1 next.2 c.read.ensures c.run-answer.ensures c.in_ok-print_answer-2.ensures,
       ap (λ x. x.now) next.3 ∙ inv.1,
     )
@@ -35,7 +35,7 @@ overflow_add-count g c =
 
 pub returns : goal.returns
 returns g c =
-    let makes = g.Nodes.Places.makes in
+    let makes = g.E.Nodes.Places.makes in
     let equipped = g.E.Equipment.equipped in
     let next = c.in_default.ensures in
     let page = vec_items c.loop-line.page in

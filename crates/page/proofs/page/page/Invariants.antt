@@ -7,8 +7,8 @@ use Rattle.page.proofs.page.page.Given as goal
 
 abbrev pub invariant-loop-line : goal.invariant-loop-line
 invariant-loop-line g l =
-    Progress g.Nodes.Places.makes g.E.Equipment.equipped (session_of g.Nodes.Places.reservoirs l.initial.session) (lines_of l.sheet) (ahead l.reader)
-    (session_of g.Nodes.Places.reservoirs l.session) l.reader.count (vec_items l.page)
+    Progress g.E.Nodes.Places.makes g.E.Equipment.equipped (session_of g.E.Nodes.Places.reservoirs l.initial.session) (lines_of l.sheet) (ahead l.reader)
+    (session_of g.E.Nodes.Places.reservoirs l.session) l.reader.count (vec_items l.page)
     × (l.reader.text.now ≡ l.sheet)
 
 abbrev pub decreases-loop-line : goal.decreases-loop-line
