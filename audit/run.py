@@ -23,7 +23,7 @@ from dataclasses import dataclass
 from pathlib import Path
 
 ROOT = Path(__file__).resolve().parent.parent
-ANSWER = re.compile(r"^rt: must-fail \w+/(\S+): (refused|NOT REFUSED|BAD EDIT)(.*)$", re.M)
+ANSWER = re.compile(r"^rt: must-fail \w+/(\S+)\.edit: (refused|NOT REFUSED|BAD EDIT|NOT TRIED)(.*)$", re.M)
 
 
 @dataclass(frozen=True)
@@ -47,8 +47,8 @@ def chosen(plants: list[Plant], count: int | None, labels: list[str]) -> list[Pl
 
 
 def copied(folder: Path) -> None:
-    """The repository without its own edits; what is proved already is taken along."""
-    ignored = shutil.ignore_patterns(".git", "must-fail", "__pycache__")
+    """The repository without its own edits, and without what checks left behind."""
+    ignored = shutil.ignore_patterns(".git", "must-fail", "out", "__pycache__")
     shutil.copytree(ROOT, folder, symlinks=True, ignore=ignored)
     subprocess.run(["git", "init", "-q", str(folder)], check=True)
 
@@ -70,17 +70,17 @@ def tried(crate: str, plants: list[Plant]) -> dict[str, tuple[str, str]]:
 def report(crate: str, plants: list[Plant]) -> int:
     """Prints what came of the plants; gives the number of survivors."""
     answers = tried(crate, plants)
-    by_word: dict[str, list[str]] = {"refused": [], "NOT REFUSED": [], "BAD EDIT": []}
+    by_word: dict[str, list[str]] = {"refused": [], "NOT REFUSED": [], "BAD EDIT": [], "NOT TRIED": []}
     for label, (word, _) in answers.items():
         by_word[word].append(label)
-    by_code = [label for label in by_word["refused"] if "first at src/" in answers[label][1]]
+    by_code = [label for label in by_word["refused"] if "note: src/" in answers[label][1]]
     unanswered = [plant.label for plant in plants if plant.label not in answers]
     print(
         f"{crate}: {len(plants)} planted, {len(by_word['refused'])} refused"
         f" ({len(by_code)} first in the code), {len(by_word['NOT REFUSED'])} not refused,"
         f" {len(by_word['BAD EDIT'])} not compiled, {len(unanswered)} unanswered"
     )
-    for word in ("NOT REFUSED", "BAD EDIT"):
+    for word in ("NOT REFUSED", "BAD EDIT", "NOT TRIED"):
         for label in by_word[word]:
             print(f"  {word.lower()}: {label}")
     for label in unanswered:

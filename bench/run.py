@@ -1,7 +1,7 @@
 #!/usr/bin/env python3
 # Times the proved program ram beside the same program in plain Rust.
 #
-#     python3 bench/run.py [--program target/bin/ram] [--runs 200]
+#     python3 bench/run.py [--program crates/ram/out/ram] [--runs 200]
 #
 # It builds bench/plain.rs into target/bench/ (rustc --edition 2021 -O), checks
 # that both programs print the same for each sheet, and times them: in turn, so
@@ -121,7 +121,7 @@ def medians(programs: list[Path], sheet: Path, runs: int) -> list[float]:
 
 def main() -> None:
     parser = argparse.ArgumentParser(description="times ram beside plain Rust")
-    parser.add_argument("--program", type=Path, default=ROOT / "target" / "bin" / "ram")
+    parser.add_argument("--program", type=Path, default=ROOT / "crates" / "ram" / "out" / "ram")
     parser.add_argument("--runs", type=int, default=200)
     given = parser.parse_args()
     ram, plain = given.program.resolve(), build_plain()

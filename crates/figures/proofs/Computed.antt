@@ -1,5 +1,5 @@
 -- A test that computes, and that a figure which passes it holds.
-use Rattle.std.proofs.Common.{◌≡◌, ℕ, ◌+◌, ◌<◌, ◌≤◌, Bool, true, false, ◌&&◌, eqb, ltb, leb, List, [], ◌∷◌, Ok, Err, sym, refl, ap, ◌∙◌, arith}
+use Rattle.std.proofs.Common.{◌≡◌, ℕ, ◌+◌, Bool, true, ◌&&◌, eqb, ltb, leb, List, [], ◌∷◌, Ok, Err, sym, refl, ap, arith}
 use Rattle.std.proofs.lemmas.Bool.{and_parts, leb-true, ltb-true, eqb-true}
 use Rattle.ground.specs.Rules.{Soaked, soaked}
 use Rattle.quantity.specs.Amounts.{load_of, gram, tenths_of}
@@ -7,7 +7,7 @@ use Rattle.reservoir.specs.Cells.{capacity, held}
 use Rattle.reservoir.specs.Meaning.{Settings, Make}
 use Rattle.reservoir.specs.declared.fault.Fault.TheVariants.{OverCapacity}
 use Rattle.routing.specs.Runs.{Taking, Run, empty, end_of}
-use Rattle.figures.specs.Figures.{Kind, linear_of, lag_of, series_of, make_of, settings_of, Seen, gives, refused, seen, seen_in, Figure, from_empty, soaks, carries, Holds, AllHold}
+use Rattle.figures.specs.Figures.{Kind, linear_of, lag_of, series_of, make_of, settings_of, Seen, gives, refused, seen_in, Figure, from_empty, soaks, carries, Holds, AllHold}
 
 abbrev valid : Kind → Bool
 valid (linear_of a b) = leb a b && leb b 65535

@@ -1,5 +1,5 @@
 -- The worked figures.
-use Rattle.std.specs.Prelude.{ℕ, List, [], ◌∷◌, pos, neg_ℤ}
+use Rattle.std.specs.Prelude.{List, [], ◌∷◌, pos, neg_ℤ}
 use Rattle.ground.specs.declared.soil.Soil.{Soil}
 use Rattle.figures.specs.Figures.{Figure, from_empty, soaks, carries, soil_of, forcing_of, linear_of, lag_of, series_of, gives, refused}
 

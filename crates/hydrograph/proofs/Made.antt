@@ -1,14 +1,13 @@
 -- Emptied gauges of the makes with which a storm is routed, and what a line of three numbers says.
-use Rattle.std.proofs.Common.{◌≡◌, ℕ, List, [], ◌∷◌, ◌++◌, length, get_or, replicate, Ok, Err, Result, refl, ap, ◌∙◌, subst, arith, MatchResult}
+use Rattle.std.proofs.Common.{◌≡◌, ℕ, List, [], ◌∷◌, length, get_or, replicate, Ok, Err, Result, refl, ap, ◌∙◌, subst, arith, MatchResult}
 use lib.ListN.{length-replicate}
 use Rattle.decimal.specs.Reading.{WritesAll}
-use Rattle.hydrograph.specs.Prepared.{fresh, Prepares}
+use Rattle.hydrograph.specs.Prepared.{fresh}
 use Rattle.hydrograph.specs.Refusals.{Written, RefusesNumbers, RefusesSettings}
 use Rattle.hydrograph.specs.declared.refused.SettingsFault.{SettingsFault}
 use Rattle.hydrograph.specs.declared.refused.SettingsFault.TheVariants.{NotThreeNumbers, Linear, Lag}
 use Rattle.reservoir.specs.Cells.{emptied}
 use Rattle.reservoir.specs.Meaning.{Settings}
-use Rattle.routing.specs.Gauges.{Gauge}
 
 pub emptied_zeros : (n : ℕ) (c : List ℕ) → c ≡ replicate n 0 → emptied c ≡ replicate n 0
 emptied_zeros n c e = ap (λ k. replicate k 0) (ap length e ∙ length-replicate n 0)

@@ -2,7 +2,6 @@
 use Rattle.std.proofs.Common.{◌*◌, ◌≤◌, List, arith}
 use Rattle.std.proofs.ByRecursion.{All-weaker}
 use Rattle.card.specs.Limits.{largest_concentration}
-use Rattle.node.specs.Stores.{storage}
 use Rattle.places.specs.States.{Meanings}
 use Rattle.reservoir.specs.Meaning.{Make}
 use Rattle.model.specs.State.{largest_income, District, new_district}

@@ -1,5 +1,5 @@
 -- The balance of a step, and that more rain gives no less.
-use Rattle.std.proofs.Common.{◌≡◌, ℕ, ◌+◌, ◌-◌, ◌*◌, ◌^◌, ◌≤◌, min, List, [], ◌∷◌, ◌++◌, length, sym, refl, ap, ◌∙◌, subst, mul-le-mul_right, mul-le-mul, arith}
+use Rattle.std.proofs.Common.{◌≡◌, ℕ, ◌+◌, ◌-◌, ◌*◌, ◌^◌, ◌≤◌, min, List, [], ◌∷◌, length, sym, refl, ap, ◌∙◌, subst, mul-le-mul_right, arith}
 use lib.ListN.{length-replicate}
 use Rattle.card.specs.Limits.{all_areas, hard_areas}
 use Rattle.card.specs.Loads.{loads_of}
@@ -7,11 +7,9 @@ use Rattle.card.specs.declared.card.Card.{Card}
 use Rattle.card.proofs.Laws.{loads_grow}
 use Rattle.ground.specs.Laws.{Wetter, Closes, SlowShareLaws}
 use Rattle.ground.specs.Laws as ground_laws
-use Rattle.ground.specs.Limits.{Admissible, Holds}
+use Rattle.ground.specs.Limits.{Admissible}
 use Rattle.ground.specs.Rules.{Soaked, soaked, slow_part, quick_part}
-use Rattle.ground.specs.Seepage.{rising_part}
 use Rattle.ground.specs.declared.forcing.Forcing.{Forcing}
-use Rattle.ground.specs.declared.soil.Soil.{Soil}
 use Rattle.ground.proofs.Flows.{seepage_law, slow_share_laws}
 use Rattle.ground.proofs.Steps as ground_steps
 use Rattle.places.specs.Laws.{total, EachAtMost}
@@ -22,7 +20,7 @@ use Rattle.reservoir.specs.Cells.{AtMost}
 use Rattle.reservoir.specs.Meaning.{Make}
 use Rattle.reservoir.specs.Lists.{held-++, at_most-++}
 use Rattle.node.specs.Stores.{Store, opened, storage}
-use Rattle.node.specs.Rules.{Yielded, Accepted, hard_evaporation, hard_runoff, soaking, inflows, rained, risen, flows_of, yield_of, after}
+use Rattle.node.specs.Rules.{hard_evaporation, hard_runoff, soaking, inflows, rained, risen, flows_of, after}
 use Rattle.node.specs.Laws.{Sound, StaysSound, StepsBalance, Pair, accepted, refused, PairRun, EachStoreAtMost, NoLess, MoreRainGivesNoLess}
 
 -- Over plain numbers: h is the hard runoff and e the hard evaporation, of which the rain r is made; on the unpaved area u

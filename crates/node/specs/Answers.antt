@@ -1,8 +1,7 @@
 -- What the calls of a node answer and leave.
-use Rattle.std.specs.Prelude.{◌≡◌, ℕ, ◌+◌, ◌-◌, ◌^◌, min, List, [], ◌∷◌, ◌++◌, Ok, Err, Result}
+use Rattle.std.specs.Prelude.{◌≡◌, ℕ, ◌+◌, List, [], ◌∷◌, ◌++◌, Ok, Err, Result}
 use Rattle.card.specs.Limits.{hard_areas}
 use Rattle.card.specs.Loads.{tenths}
-use Rattle.card.specs.declared.card.Card.{Card}
 use Rattle.ground.specs.Limits.{InRange}
 use Rattle.ground.specs.declared.forcing.Forcing.{Forcing}
 use Rattle.places.specs.Answers.{Refuses}
@@ -11,7 +10,7 @@ use Rattle.places.specs.declared.fault.PlacedFault.{PlacedFault}
 use Rattle.places.specs.States.{State, EachAccepts, each_content}
 use Rattle.quantity.specs.Amounts.{volume_of}
 use Rattle.reservoir.specs.Meaning.{Make}
-use Rattle.node.specs.Stores.{Store, storage}
+use Rattle.node.specs.Stores.{Store}
 use Rattle.node.specs.Rules.{Yielded, Accepted, hard_evaporation, soaking, inflows, rained, risen}
 use Rattle.node.specs.declared.answer.Flows.{Flows}
 use Rattle.node.specs.declared.answer.Income.{Income}

@@ -1,5 +1,5 @@
 -- The laws of a node, over every six makes that keep a reservoir's meaning.
-use Rattle.std.specs.Prelude.{◌≡◌, ℕ, ◌+◌, ◌≤◌, List, [], ◌∷◌}
+use Rattle.std.specs.Prelude.{◌≡◌, ◌+◌, ◌≤◌, List, [], ◌∷◌}
 use Rattle.card.specs.declared.card.Card.{Card}
 use Rattle.ground.specs.Laws.{Wetter}
 use Rattle.ground.specs.Limits.{Admissible, Holds}

@@ -7,7 +7,7 @@ use Rattle.ground.specs.Limits.{InRange}
 use Rattle.ground.specs.Rules.{Soaked, soaked, slow_part, quick_part}
 use Rattle.ground.specs.Seepage.{rising_part}
 use Rattle.ground.specs.declared.forcing.Forcing.{Forcing}
-use Rattle.places.specs.States.{State, EachAccepts, each_gives, each_leaves}
+use Rattle.places.specs.States.{EachAccepts, each_gives, each_leaves}
 use Rattle.quantity.specs.Amounts.{volume_of}
 use Rattle.reservoir.specs.Meaning.{Make}
 use Rattle.node.specs.Stores.{Store}

@@ -1,10 +1,9 @@
 -- A node at the level of definitions: its card, and its stores, which are the soil moisture, the depression storage and
 -- the cells of its six reservoirs.
-use Rattle.std.specs.Prelude.{ℕ, ◌+◌, ◌≤◌, List}
-use Rattle.card.specs.Limits.{all_areas}
+use Rattle.std.specs.Prelude.{ℕ, ◌+◌, List}
 use Rattle.card.specs.declared.card.Card.{Card}
 use Rattle.ground.specs.Limits.{field_capacity}
-use Rattle.places.specs.Laws.{total, EachAtMost}
+use Rattle.places.specs.Laws.{total}
 use Rattle.places.specs.States.{State, each_emptied, each_holds}
 use Rattle.quantity.specs.Amounts.{volume_of}
 

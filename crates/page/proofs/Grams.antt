@@ -1,7 +1,6 @@
 -- The whole grams of masses.
-use Rattle.std.proofs.Common.{◌≡◌, ℕ, ◌/◌, List, [], ◌∷◌, map, length, get_or, refl, ap₂, arith}
+use Rattle.std.proofs.Common.{◌≡◌, List, [], ◌∷◌, map, length, get_or, refl, ap₂, arith}
 use Rattle.book.specs.Books.{masses}
-use Rattle.quantity.specs.Amounts.{gram, tenths_of}
 use Rattle.quantity.specs.declared.mass.Mass.{Mass}
 use Rattle.page.specs.Printed.{grams}
 

@@ -1,5 +1,5 @@
 -- How a page comes about, line by line.
-use Rattle.std.proofs.Common.{◌≡◌, ℕ, ◌+◌, List, [], ◌∷◌, ◌++◌, sym, refl, ap, ◌∙◌, subst, append_assoc, append-nil, arith}
+use Rattle.std.proofs.Common.{◌≡◌, ℕ, ◌+◌, List, [], ◌∷◌, ◌++◌, sym, ap, ◌∙◌, subst, append_assoc, append-nil}
 use Rattle.command.specs.Meanings.{Meaning, Means}
 use Rattle.model.specs.Soundness.{Sound}
 use Rattle.reservoir.specs.Meaning.{Make}

@@ -1,5 +1,5 @@
 -- How the engine's quantities make one another. All are whole numbers.
-use Rattle.std.specs.Prelude.{ℕ, ◌+◌, ◌*◌, ◌<◌}
+use Rattle.std.specs.Prelude.{ℕ, ◌+◌, ◌*◌}
 
 -- a depth in points of 0.01 mm over an area in square metres: a volume in centilitres
 abbrev pub volume_of : ℕ → ℕ → ℕ

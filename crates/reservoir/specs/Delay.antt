@@ -1,9 +1,9 @@
 -- A lag keeps a reservoir's meaning; and what its array of twelve holds.
 use Rattle.std.specs.Prelude.{◌≡◌, ℕ, zero, suc, ◌+◌, ◌-◌, ◌<◌, ◌≤◌, List, [], ◌∷◌, ◌++◌, length, take, drop, replicate, slice_index, slice_index_or, slice_set, refl}
-use Rattle.std.proofs.Common.{sym, ◌∙◌, ap, subst, arith}
+use Rattle.std.proofs.Common.{sym, ◌∙◌, ap, arith}
 use Rattle.std.proofs.lemmas.List.{length-append, length-drop, length_push, length-take-le, length-map, get_or-map, get_or-take, map_push, drop-map, take-replicate, map_more, take_more_set, take-append-le, drop-take}
 use Rattle.quantity.specs.declared.water.Centilitres.{Centilitres}
-use Rattle.reservoir.specs.Cells.{capacity, held, emptied, volumes}
+use Rattle.reservoir.specs.Cells.{capacity, held, volumes}
 use Rattle.reservoir.specs.Meaning.{Meaning, Fits}
 use Rattle.reservoir.specs.Makes.{lag, steps}
 use Rattle.reservoir.specs.Lists.{held_zeros, held-++, held_split, at_most_first, at_most_drop, at_most-++}

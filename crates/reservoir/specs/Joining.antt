@@ -1,8 +1,7 @@
 -- Two reservoirs in series keep a reservoir's meaning where both do.
-use Rattle.std.specs.Prelude.{◌≡◌, ℕ, ◌+◌, ◌≤◌, List, ◌++◌, length, take, drop, refl}
-use Rattle.std.proofs.Common.{sym, ◌∙◌, ap, subst, arith}
-use Rattle.std.proofs.lemmas.List.{length-append, length-take-le, length-drop, take_at, drop_at}
-use Rattle.reservoir.specs.Cells.{held, AtMost}
+use Rattle.std.specs.Prelude.{ℕ, ◌≤◌, List, ◌++◌, length, take, drop}
+use Rattle.std.proofs.Common.{arith}
+use Rattle.std.proofs.lemmas.List.{length-append, length-take-le, length-drop}
 use Rattle.reservoir.specs.Meaning.{Settings, joined, Make, Meaning, Fits, Accepts}
 use Rattle.reservoir.specs.Makes.{series, of_first, of_second}
 use Rattle.reservoir.specs.Lists.{held-++, held_split, at_most_take, at_most_drop, at_most-++}

@@ -1,5 +1,5 @@
 -- The makes: linear reservoir, lag, and two reservoirs in series.
-use Rattle.std.specs.Prelude.{◌≡◌, ℕ, ◌+◌, ◌-◌, ◌*◌, ◌/◌, ◌≤◌, List, [], ◌∷◌, ◌++◌, length, take, drop, slice_index}
+use Rattle.std.specs.Prelude.{ℕ, ◌+◌, ◌-◌, ◌*◌, ◌/◌, ◌≤◌, [], ◌∷◌, ◌++◌, take, drop, slice_index}
 use Rattle.reservoir.specs.Meaning.{Settings, single, joined, Make}
 
 -- the settings of a linear reservoir, recession and retention, and of a lag, its number of cells

@@ -1,5 +1,5 @@
 -- The laws of whole runs, of every make that keeps a reservoir's meaning.
-use Rattle.std.proofs.Common.{◌≡◌, ℕ, zero, suc, ◌+◌, ◌≤◌, List, [], ◌∷◌, length, replicate, Ok, Err, Result, sym, refl, ap, ◌∙◌, subst, arith}
+use Rattle.std.proofs.Common.{◌≡◌, ℕ, zero, suc, ◌+◌, ◌≤◌, List, [], ◌∷◌, length, replicate, Ok, Err, Result, sym, ap, ◌∙◌, subst, arith}
 use lib.ListN.{length-replicate}
 use Rattle.quantity.specs.declared.water.Centilitres.{Centilitres}
 use Rattle.reservoir.specs.Answers.{Takes}

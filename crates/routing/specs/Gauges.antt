@@ -1,5 +1,5 @@
 -- A gauged reservoir at the level of definitions: what it answers, leaves and counts.
-use Rattle.std.specs.Prelude.{◌≡◌, ℕ, ◌+◌, ◌-◌, ◌^◌, ◌<◌, ◌≤◌, min, List, Ok, Err, Result}
+use Rattle.std.specs.Prelude.{◌≡◌, ℕ, ◌+◌, ◌-◌, ◌^◌, ◌<◌, min, List, Ok, Err, Result}
 use Rattle.reservoir.specs.Cells.{capacity, held}
 use Rattle.reservoir.specs.Faults.{Full}
 use Rattle.reservoir.specs.Meaning.{Settings, Make, Accepts}

@@ -1,5 +1,5 @@
 -- What a call of the district leads to in a session.
-use Rattle.std.proofs.Common.{◌≡◌, ℕ, List, None, Ok, Err, Option, sym, ap, subst}
+use Rattle.std.proofs.Common.{ℕ, List, None, Ok, Err, Option, sym, ap, subst}
 use Rattle.card.specs.Checking.{Checks, numbers_of}
 use Rattle.card.specs.Faults as cards
 use Rattle.card.specs.declared.card.Card.{Card}
@@ -8,7 +8,6 @@ use Rattle.card.specs.declared.fault.CardFault.{CardFault}
 use Rattle.model.specs.Calls as calls
 use Rattle.model.specs.Calls.{Call, opening, Granted}
 use Rattle.model.specs.Rules.{does}
-use Rattle.model.specs.Soundness.{Sound}
 use Rattle.model.specs.State.{District}
 use Rattle.places.specs.States.{State}
 use Rattle.reservoir.specs.Meaning.{Make}

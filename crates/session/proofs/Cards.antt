@@ -1,9 +1,8 @@
 -- The tests of a card's numbers find the fault that checking answers.
-use Rattle.std.proofs.Common.{◌≡◌, ℕ, zero, suc, Bool, true, false, cond, ◌&&◌, leb, List, [], ◌∷◌, Ok, Err, Option, sym, refl, ap, ◌∙◌, ⊎_elim, arith}
+use Rattle.std.proofs.Common.{◌≡◌, zero, suc, Bool, true, false, List, [], ◌∷◌, Ok, Err, refl, ◌∙◌, ⊎_elim, arith}
 use Rattle.std.proofs.lemmas.Bool.{lt-ltb, le-leb, ltb-true, leb-true, and_from, and_parts, cases_Bool, cond-true, cond-false}
-use Rattle.card.specs.Limits.{AreasWithin, FlowWithin, ConcentrationsWithin, largest_concentration}
+use Rattle.card.specs.Limits.{AreasWithin, FlowWithin, ConcentrationsWithin}
 use Rattle.card.specs.declared.areas.Areas.{Areas as CardAreas}
-use Rattle.card.specs.declared.card.Card.{Card}
 use Rattle.card.specs.declared.fault.CardFault.TheVariants.{Areas, Soil, Concentrations}
 use Rattle.ground.specs.Limits.{Admissible}
 use Rattle.ground.specs.declared.soil.Soil.{Soil as CardSoil}

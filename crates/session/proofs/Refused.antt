@@ -1,5 +1,5 @@
 -- A refused line leaves the district as it was and no half-made card.
-use Rattle.std.proofs.Common.{◌≡◌, ℕ, List, Some, None, Ok, Err, Option, Result, sym, refl, ap, ◌∙◌, arith}
+use Rattle.std.proofs.Common.{◌≡◌, ℕ, List, Some, None, Ok, Err, Option, Result, refl, ap, arith}
 use Rattle.card.specs.declared.areas.Areas.{Areas}
 use Rattle.card.specs.declared.card.Card.{Card}
 use Rattle.card.specs.declared.fault.CardFault.{CardFault}

@@ -1,5 +1,5 @@
 -- The first fault of a card, if it has one, by tests of its numbers.
-use Rattle.std.specs.Prelude.{ℕ, Bool, true, cond, ◌&&◌, List, [], ◌∷◌, Some, None, Ok, Err, Option, Result, nat_le, nat_lt}
+use Rattle.std.specs.Prelude.{Bool, true, cond, ◌&&◌, List, [], ◌∷◌, Some, None, Ok, Err, Option, Result, nat_le, nat_lt}
 use Rattle.card.specs.Limits.{all_areas, largest_area, largest_concentration}
 use Rattle.card.specs.declared.areas.Areas.{Areas as CardAreas}
 use Rattle.card.specs.declared.card.Card.{Card}

@@ -1,5 +1,5 @@
 -- Laws of sheets.
-use Rattle.std.specs.Prelude.{◌≡◌, List, Ok, Err, Result}
+use Rattle.std.specs.Prelude.{◌≡◌, List, Err, Result}
 use Rattle.card.specs.Checking.{Checks}
 use Rattle.card.specs.declared.card.Card.{Card}
 use Rattle.card.specs.declared.card.CheckedCard.{CheckedCard}

@@ -1,4 +1,4 @@
-use Rattle.std.proofs.Common.{◌≡◌, ℕ, ◌+◌, List, ◌++◌, length, vec_items, sym, ap, ◌∙◌, arith}
+use Rattle.std.proofs.Common.{ℕ, ◌+◌, ◌++◌, length, vec_items, ap, ◌∙◌, arith}
 use Rattle.lines.specs.declared.reader.Reader.{Reader}
 use Rattle.lines.proofs.Steps.{length_lines}
 use Rattle.session.specs.Entries.{told}

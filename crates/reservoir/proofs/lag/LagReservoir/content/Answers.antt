@@ -1,4 +1,4 @@
-use Rattle.std.proofs.Common.{◌≡◌, ◌+◌, ◌<◌, ◌≤◌, length, arith}
+use Rattle.std.proofs.Common.{◌+◌, ◌<◌, ◌≤◌, length, arith}
 use Rattle.reservoir.specs.Delay.{held_more, held_fewer}
 use Rattle.reservoir.proofs.lag.LagReservoir.content.Goals as goal
 

@@ -1,4 +1,4 @@
-use Rattle.std.proofs.Common.{◌≤◌, length, replicate, sym, ap, ◌∙◌, arith}
+use Rattle.std.proofs.Common.{◌≤◌, length, arith}
 use Rattle.reservoir.specs.Delay.{length_used}
 use Rattle.reservoir.proofs.lag.LagReservoir.empty.Goals as goal
 

@@ -1,4 +1,4 @@
-use Rattle.std.proofs.Common.{◌≡◌, length, sym, ap, ◌∙◌, arith, rules}
+use Rattle.std.proofs.Common.{length, ap, arith}
 use Rattle.reservoir.specs.Cells.{held}
 use Rattle.reservoir.specs.Lists.{held_zeros}
 use Rattle.routing.proofs.Laws.{runs_balance, more_gives_no_less}
