@@ -3,8 +3,8 @@
 #
 #     python3 tools/snake_names.py [FOLDER]
 #
-# Run once, after port.py, on the repository in FOLDER or here. A name with a dash stays as it is where it is
-# imported from the standard library, and where the toolchain makes it: in the files of a function's proof only
+# Run once, after port.py, on the repository in FOLDER or here. A name with a dash or in camel case stays as it is where it is
+# imported from a library of the toolchain, and where the toolchain makes it: in the files of a function's proof only
 # names that the repository declares, or that are bound there, are turned. Comments and strings are left alone.
 
 from __future__ import annotations
@@ -14,9 +14,14 @@ import sys
 from pathlib import Path
 
 DASHED = re.compile(r"(?<![\w'«-])[A-Za-z][\w']*(?:-[\w']+)+")
-DECLARED = re.compile(r"^\s*(?:(?:abbrev|unfoldable|irreducible|data|record)\s+)*(?:pub\s+)?([A-Za-z][\w']*(?:-[\w']+)+)\s*:(?![:=])", re.M)
+CAMEL = re.compile(r"(?<![\w'.«-])[a-z]+(?:[A-Z][a-z]+)+[\w']*(?![\w'-])")
+DECLARED = re.compile(
+    r"^\s*(?:(?:abbrev|unfoldable|irreducible|data|record)\s+)*(?:pub\s+)?"
+    r"([A-Za-z][\w']*(?:-[\w']+)+|[a-z]+(?:[A-Z][a-z]+)+[\w']*)\s*:(?![:=])",
+    re.M,
+)
 BOUND = re.compile(r"(?:\blet|λ|\[|\|)\s+((?:[A-Za-z_][\w'-]*\s+)*[A-Za-z_][\w'-]*)\s*(?:[:=.]|↦)")
-IMPORTED = re.compile(r"^use Rattle\.std[\w.]*\.\{([^}]*)\}", re.M)
+IMPORTED = re.compile(r"^(?:ghost )?use (?:Rattle\.std|lib|native|mathlib|Prim|[\w.]+\.Goals)[\w.]*\.\{([^}]*)\}", re.M)
 PROSE_ANTT = re.compile(r"--[^\n]*")
 PROSE_RT = re.compile(r'//[^\n]*|"(?:\\.|[^"\\])*"|b?\'(?:\\.|[^\'\\\n])\'')
 
@@ -56,7 +61,13 @@ def turned(path: Path, own: set[str]) -> str:
     def snake(match: re.Match[str]) -> str:
         return match[0] if stays(match[0]) else match[0].replace("-", "_")
 
-    return "".join(part if is_prose else DASHED.sub(snake, part) for is_prose, part in parts(text, prose))
+    def words(match: re.Match[str]) -> str:
+        return re.sub(r"[A-Z]", lambda letter: "_" + letter[0].lower(), match[0]) if match[0] in own else match[0]
+
+    def spelled(part: str) -> str:
+        return CAMEL.sub(words, DASHED.sub(snake, part))
+
+    return "".join(part if is_prose else spelled(part) for is_prose, part in parts(text, prose))
 
 
 def main() -> None:
@@ -72,7 +83,7 @@ def main() -> None:
         text = turned(path, own)
         if text != path.read_text():
             path.write_text(text)
-    print(f"{len(own)} names declared with a dash")
+    print(f"{len(own)} names declared with a dash or in camel case")
 
 
 main()

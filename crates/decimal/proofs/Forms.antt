@@ -1,10 +1,10 @@
--- The decimal forms of the numbers below 10 ^ 18. It rests on the shelf's `Decimals` and `Numerals`.
+-- The decimal forms of the numbers below 10 ^ 18. It rests on the library's lemmas of printed numbers and of digits.
 use Rattle.std.proofs.Common.{◌≡◌, ℕ, ◌-◌, ◌^◌, ◌<◌, ◌≤◌, List, length, get_or, take, Some, None, decimal, Option, sym, refl, ap, ◌∙◌, subst, ⊎_elim, arith, length-take, rules}
 use Rattle.std.specs.Option.{SomeIff}
 use Rattle.std.specs.Str.Iter.{LacksByte}
 use Rattle.std.specs.Str.Parse.{AllDigits, digits_value}
 use Rattle.std.specs.Int.{IsInRange}
-use Rattle.std.specs.Char.{digit_value as digitValue}
+use Rattle.std.specs.Char.{digit_value as digit_of}
 use Rattle.std.proofs.lemmas.Fmt.{decimal_is_IsNumeral, decimal_digit, decimal-digits_value, first_decimal, length-decimal-le}
 use Rattle.std.proofs.lemmas.Str.Parse.{IsNumeralModel, numerals_by_value, tells_digits, digits_value_short, not_in_digits}
 use Rattle.std.proofs.lemmas.Bool.{cases_eq}
@@ -18,7 +18,7 @@ own = numerals_by_value (AllDigits 10) tells_digits
 pub room : (word : List ℕ) (i : ℕ) → i < 18 → AllDigits 10 (take i word) → digits_value 10 (take i word) < 10 ^ 17
 room word i few digits = digits_value_short own (take i word) 17 digits (simp length-take (omega arith))
 
-pub digit_value : (b : ℕ) → IsInRange 48 57 b → digitValue b ≡ b - 48
+pub digit_value : (b : ℕ) → IsInRange 48 57 b → digit_of b ≡ b - 48
 digit_value b digit = search rules
 
 -- the word is 1 to 18 digits of value n, with no leading zero

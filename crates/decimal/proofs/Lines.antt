@@ -1,4 +1,4 @@
--- Lines of numbers with a space between each two, and what `naturals` has read of one. It rests on `Forms` and on the shelf's `Lists`.
+-- Lines of numbers with a space between each two, and what `naturals` has read of one. It rests on `Forms` and on the library's lemmas of lists.
 use Rattle.std.proofs.Common.{◌≡◌, ℕ, zero, suc, ◌+◌, ◌^◌, ◌<◌, ◌≤◌, List, [], ◌∷◌, ◌++◌, map, length, get_or, take, drop, set, replicate, Some, None, decimal, Option, sym, refl, ap, ◌∙◌, arith, length-set, take-append-drop, length-take, Bor}
 use lib.ListN.{length-replicate}
 use Rattle.std.specs.Str.Iter.{LacksByte}
@@ -6,7 +6,7 @@ use Rattle.std.specs.List.{join_with_byte, flat_map, AllByRecursion}
 use Rattle.std.proofs.lemmas.Fmt.{decimal_injective}
 use Rattle.std.proofs.ByRecursion.{All-get_or, All-set, All-take}
 use Rattle.std.proofs.lemmas.List.{append-nil, append_assoc, at_drop_more, at_drop_all, drop_all, drop_more, flat_map_more, length-take-le, nil_from_length, take_all, take_more_set}
-use Rattle.decimal.specs.Reading.{SomeExactly, Writes, WritesAll, afterSpace}
+use Rattle.decimal.specs.Reading.{SomeExactly, Writes, WritesAll, after_space}
 use Rattle.decimal.proofs.Exactly.{none, some}
 use Rattle.decimal.proofs.Forms.{decimal_lacks_space}
 
@@ -17,9 +17,9 @@ split_at_space line i within space = sym (take-append-drop i line) ∙ ap (λ l.
 abbrev pub SpaceFirst : List ℕ → Type 0
 SpaceFirst s = get_or s 0 32 ≡ 32
 
-afterSpace_first : (rest : Option (Bor (List ℕ))) → SpaceFirst (afterSpace rest)
-afterSpace_first None = refl
-afterSpace_first (Some l) = refl
+after_space_first : (rest : Option (Bor (List ℕ))) → SpaceFirst (after_space rest)
+after_space_first None = refl
+after_space_first (Some l) = refl
 
 -- a line is split at its first space in one way
 pub same_split : (u v s t : List ℕ) → LacksByte 32 u → LacksByte 32 v → SpaceFirst s → SpaceFirst t → u ++ s ≡ v ++ t → (u ≡ v) × (s ≡ t)
@@ -83,38 +83,38 @@ pub record Progress (count : ℕ) (line numbers : List ℕ) (i : ℕ) (rest : Op
   pub filled : count ≡ 0 → length line ≡ 0 → ⊥
   pub long : length numbers ≡ count
   pub below : Below numbers
-  pub whole : 32 ∷ line ≡ spaced (take i numbers) ++ afterSpace rest
+  pub whole : 32 ∷ line ≡ spaced (take i numbers) ++ after_space rest
 
 pub progress_start : (count : ℕ) (line : Bor (List ℕ)) → (count ≡ 0 → length line.now ≡ 0 → ⊥) → Progress count line.now (replicate count 0) 0 (Some line)
 progress_start count line filled = record { filled = filled; long = length-replicate count 0; below = zeros_below count; whole = refl }
 
 module _ {count : ℕ} {line numbers : List ℕ} {i : ℕ} {rest : Option (Bor (List ℕ))} (p : Progress count line numbers i rest) (ns : List ℕ) (writes : WritesAll count line ns) where
   -- any numbers that the line writes are those read so far, and then those of the rest
-  remaining : i ≤ count → (take i numbers ++ drop i ns ≡ ns) × (afterSpace rest ≡ spaced (drop i ns))
+  remaining : i ≤ count → (take i numbers ++ drop i ns ≡ ns) × (after_space rest ≡ spaced (drop i ns))
   remaining within =
       let enough : i ≤ length numbers = omega arith in
       let whole = sym p.whole ∙ spaced_from_rejoined line ns (λ e. p.filled (omega arith)) writes.2 in
       rw (length-take-le i numbers enough) at
-      (others (take i numbers) ns (afterSpace rest) (All-take _ i numbers p.below) writes.1 (afterSpace_first rest) (simp length-take (omega arith)) whole)
+      (others (take i numbers) ns (after_space rest) (All-take _ i numbers p.below) writes.1 (after_space_first rest) (simp length-take (omega arith)) whole)
 
   -- so the rest begins with the next of them
-  next : i < count → afterSpace rest ≡ 32 ∷ (decimal (get_or ns i 0) ++ spaced (drop (i + 1) ns))
+  next : i < count → after_space rest ≡ 32 ∷ (decimal (get_or ns i 0) ++ spaced (drop (i + 1) ns))
   next within = (remaining (omega arith)).1 ∙ at_drop_more spaced ns i 0 (omega arith)
 
 module _ {count : ℕ} {line numbers : List ℕ} {i : ℕ} (within : i < count) where
   pub none_at_end : Progress count line numbers i None → SomeExactly None (WritesAll count line)
   none_at_end p = none (λ ns writes. let e = next p ns writes within in let z : ◌≡◌ {A = ℕ} 0 1 = cc in omega arith)
 
-  module _ {l : Bor (List ℕ)} (word : List ℕ) (after : Option (Bor (List ℕ))) (p : Progress count line numbers i (Some l)) (split : l.now ≡ word ++ afterSpace after) where
+  module _ {l : Bor (List ℕ)} (word : List ℕ) (after : Option (Bor (List ℕ))) (p : Progress count line numbers i (Some l)) (split : l.now ≡ word ++ after_space after) where
     pub none_at_word : LacksByte 32 word → SomeExactly None (Writes word) → SomeExactly None (WritesAll count line)
     none_at_word lacks unread =
         none (λ ns writes.
         let n : ℕ = get_or ns i 0 in
         let below = All-get_or _ ns i 0 (omega arith) writes.1 in
-        let cut : word ++ afterSpace after ≡ decimal n ++ spaced (drop (i + 1) ns) = cc (next p ns writes within) in
+        let cut : word ++ after_space after ≡ decimal n ++ spaced (drop (i + 1) ns) = cc (next p ns writes within) in
         let parts =
-        same_split word (decimal n) (afterSpace after) (spaced (drop (i + 1) ns))
-        lacks (decimal_lacks_space n below) (afterSpace_first after) (spaced_first (drop (i + 1) ns))
+        same_split word (decimal n) (after_space after) (spaced (drop (i + 1) ns))
+        lacks (decimal_lacks_space n below) (after_space_first after) (spaced_first (drop (i + 1) ns))
         cut in
         let e = (unread n).1 (below, parts.0) in
         let z : ◌≡◌ {A = ℕ} 0 1 = cc in omega arith)
@@ -128,7 +128,7 @@ module _ {count : ℕ} {line numbers : List ℕ} {i : ℕ} (within : i < count) 
           let inside : i < length numbers = omega arith in
           let put = take_more_set numbers i n inside in
           let written = flat_map_more (λ m. 32 ∷ decimal m) [] (take i numbers) n in
-          cc (p.whole, put, written, append_assoc (spaced (take i numbers)) (32 ∷ decimal n) (afterSpace after));
+          cc (p.whole, put, written, append_assoc (spaced (take i numbers)) (32 ∷ decimal n) (after_space after));
     }
 
 module _ {count : ℕ} {line numbers : List ℕ} {i : ℕ} (done : i ≡ count) where

@@ -17,6 +17,6 @@ abbrev pub WritesAll : ℕ → List ℕ → List ℕ → Type 0
 WritesAll count line ns = (length ns ≡ count) × AllByRecursion (λ n. n < 10 ^ 18) ns × (line ≡ join_with_byte 32 (map decimal ns))
 
 -- What a line has after its first word: a space and the rest, or nothing.
-abbrev pub afterSpace : Option (Bor (List ℕ)) → List ℕ
-afterSpace None = []
-afterSpace (Some rest) = 32 ∷ rest.now
+abbrev pub after_space : Option (Bor (List ℕ)) → List ℕ
+after_space None = []
+after_space (Some rest) = 32 ∷ rest.now

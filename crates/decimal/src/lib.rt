@@ -9,7 +9,7 @@ ghost use Rattle.std.specs.Prelude.{◌≡◌, ◌≤◌, ◌↔◌, ◌++◌, l
 ghost use Rattle.std.specs.Option.{SomeIff};
 ghost use Rattle.std.specs.Str.Iter.{LacksByte};
 ghost use Rattle.std.specs.Str.Parse.{AllDigits, digits_value};
-ghost use Rattle.decimal.specs.Reading.{SomeExactly, Writes, WritesAll, afterSpace};
+ghost use Rattle.decimal.specs.Reading.{SomeExactly, Writes, WritesAll, after_space};
 
 const MOST_DIGITS: usize = 18;
 
@@ -46,7 +46,7 @@ fn digits_value(word: &[u8]) -> Option<u64>
 // Where the line has no space, all of it is the word, and `None` follows.
 pub fn split_word(line: &[u8]) -> (&[u8], Option<&[u8]>)
     ensures word { LacksByte 32 result.0.now }
-    ensures whole { line.now ≡ result.0.now ++ afterSpace result.1 }
+    ensures whole { line.now ≡ result.0.now ++ after_space result.1 }
     ensures no_rest { (result.1 ≡ None) ↔ LacksByte 32 line.now }
 {
     for (i, byte) in line.iter().enumerate() {

@@ -30,10 +30,10 @@ known_of new = not_open
 known_of (open_with n) = open_on n.card
 known_of withdrawn = not_open
 
-getD_known : (roll : List Standing) (i : ℕ) → get_or (map known_of roll) i not_open ≡ known_of (get_or roll i outside)
-getD_known [] i = refl
-getD_known (x ∷ roll) zero = refl
-getD_known (x ∷ roll) (suc i) = getD_known roll i
+get_or_known : (roll : List Standing) (i : ℕ) → get_or (map known_of roll) i not_open ≡ known_of (get_or roll i outside)
+get_or_known [] i = refl
+get_or_known (x ∷ roll) zero = refl
+get_or_known (x ∷ roll) (suc i) = get_or_known roll i
 
 -- a number that is entered with the same card is known as before
 known_same : (roll : List Standing) (k : ℕ) (x s : Standing) → Stands roll k x → known_of s ≡ known_of x → map known_of (entered roll k s) ≡ map known_of roll
@@ -74,7 +74,7 @@ agrees makes d t (stepping k f) h =
     stepping_cases makes d k f (λ o. Agrees o.after (hears t (stepping k f) o.answer)) (λ r. h)
     (λ n e a within.
     let knows : known t.numbers k ≡ open_on n.card =
-    ap (λ x. known x k) h.numbers ∙ getD_known (outside ∷ d.roll) k ∙ ap known_of e in
+    ap (λ x. known x k) h.numbers ∙ get_or_known (outside ∷ d.roll) k ∙ ap known_of e in
     record {
       numbers = h.numbers ∙ sym (known_same d.roll k (open_with n) _ (open_stands d.roll k n e) refl);
       totals = ap₂ (λ b x. tally_step b x f (yield_of makes n f)) h.totals knows ∙ same_step d.book n.card f (yield_of makes n f);

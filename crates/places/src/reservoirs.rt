@@ -2,8 +2,7 @@
 
 ghost use Rattle.places.specs.Laws.{Laws};
 ghost use Rattle.places.specs.States.{state, Emptied};
-ghost use Rattle.std.specs.Prelude.{[], ◌∷◌};
-ghost use Rattle.std.proofs.Common.{rules};
+ghost use Rattle.std.specs.Prelude.{[], ◌∷◌, refl};
 
 use crate::fault::{PlacedFault, at};
 use crate::interface::Places;
@@ -65,11 +64,29 @@ impl<M: Makes> Places for Reservoirs<M> {
         ∷ state M.Slow.Reservoir.settings M.Slow.Reservoir.cells p.slow
         ∷ [] };
 
-    ghost six = { Prim.search rules };
+    ghost six = { refl };
 
-    ghost meanings = { Prim.search rules };
+    ghost meanings = { (
+      M.Open.Reservoir.meaning,
+      (
+        M.Paved.Reservoir.meaning,
+        (
+          M.Sewer.Reservoir.meaning,
+          (M.Surface.Reservoir.meaning, (M.Quick.Reservoir.meaning, (M.Slow.Reservoir.meaning, tt))),
+        ),
+      ),
+    ) };
 
-    ghost fits = { Prim.search rules };
+    ghost fits = { λ p. (
+      M.Open.Reservoir.fits p.open,
+      (
+        M.Paved.Reservoir.fits p.paved,
+        (
+          M.Sewer.Reservoir.fits p.sewer,
+          (M.Surface.Reservoir.fits p.surface, (M.Quick.Reservoir.fits p.quick, (M.Slow.Reservoir.fits p.slow, tt))),
+        ),
+      ),
+    ) };
 
     fn contents(&self) -> Volumes {
         Volumes {

@@ -1,4 +1,4 @@
--- One digit more in `digits_value`, by the shelf's `Digits`.
+-- One digit more in `digits_value`, by the library's lemmas of digits.
 use Rattle.std.proofs.Common.{arith, take_all}
 use Rattle.std.proofs.lemmas.Int.Digits.{digits_more, digits_value_more}
 use Rattle.std.proofs.lemmas.Str.Parse.{digit_at}
