@@ -16,7 +16,7 @@ python3 reference/replay.py --check
 # rt's last line is held back until the programs have been compared
 log=$(mktemp)
 trap 'rm -f "$log"' EXIT
-rt ci | tee "$log" | sed '$d'
+rt ci | tee "$log" | sed '$d' || { tail -n 1 "$log"; exit 1; }
 if grep -E '^rt: ok.*, [1-9][0-9]* bad' "$log"; then
     echo 'test: an edit that must fail cannot be tried'
     exit 1
