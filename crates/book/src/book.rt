@@ -1,11 +1,12 @@
 // The book of a district: the totals of everything that came in, left and was carried since the district was new.
 // Each is an account, which stays at its largest value rather than wrap.
 
+ghost use Rattle.card.specs.Limits.{nutrient_count};
 ghost use Rattle.card.specs.Loads.{tenths};
 ghost use Rattle.book.specs.Books.{book_of, masses, opening_kept, plus_masses, step_kept, withdrawal_kept};
 ghost use Rattle.model.specs.State.{empty_book, income, largest_income};
 ghost use Rattle.node.specs.Answers.{yielded};
-ghost use Rattle.std.specs.Prelude.{◌≡◌, ◌+◌, nat_le};
+ghost use Rattle.std.specs.Prelude.{◌≡◌, ◌+◌, ◌<◌, nat_le};
 
 use card::concentrations::NUTRIENTS;
 use node::answer::{Income, Yield};
@@ -13,6 +14,7 @@ use quantity::account::Account;
 use quantity::load::Load;
 use quantity::mass::Mass;
 use quantity::water::Centilitres;
+use std::array;
 
 const LARGEST_INCOME: Centilitres = Centilitres(1_000_000_000_000_000_000);
 
@@ -44,7 +46,7 @@ impl Book {
             discharged: Centilitres::zero(),
             sunk: Centilitres::zero(),
             ceded: Centilitres::zero(),
-            loads: [Mass::zero(), Mass::zero(), Mass::zero()],
+            loads: [Mass::zero(); NUTRIENTS],
         }
     }
 
@@ -53,7 +55,7 @@ impl Book {
         ensures { result ≡ nat_le (income (book_of self.now) + volume.0) largest_income }
     {
         let income = self.rain.plus(self.rise).plus(self.brought_in);
-        income.plus(volume).0 <= LARGEST_INCOME.0
+        income.plus(volume) <= LARGEST_INCOME
     }
 
     // Books the opening of a node, which brings a volume in.
@@ -87,10 +89,9 @@ impl Book {
 fn with_loads(sums: &[Mass; NUTRIENTS], loads: &[Load; NUTRIENTS]) -> [Mass; NUTRIENTS]
     ensures { masses result ≡ plus_masses (masses sums.now) (tenths loads.now) }
 {
-    let [ammonium, nitrate, phosphor] = *sums;
-    [
-        ammonium.plus(loads[0]),
-        nitrate.plus(loads[1]),
-        phosphor.plus(loads[2]),
-    ]
+    array::from_fn(
+        |nutrient|
+            requires { nutrient < nutrient_count }
+        { sums[nutrient].plus(loads[nutrient]) },
+    )
 }

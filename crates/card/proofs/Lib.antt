@@ -1,3 +1,3 @@
-mod Places
+pub mod Within
 pub mod Carried
 pub mod Laws

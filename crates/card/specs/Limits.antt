@@ -13,17 +13,14 @@ all_areas a = hard_areas a + a.unpaved.0
 abbrev pub largest_area : ℕ
 largest_area = 100000000
 
--- no area by itself is above the limit
-abbrev pub EachAreaWithin : Areas → Type 0
-EachAreaWithin a =
-    (a.«open».0 ≤ largest_area)
-    × (a.paved.0 ≤ largest_area)
-    × (a.sewer.0 ≤ largest_area)
-    × (a.unpaved.0 ≤ largest_area)
-
 -- the areas that a card may have: each within the limit, and all together within it and not 0
-abbrev pub AreasWithin : Areas → Type 0
-AreasWithin a = EachAreaWithin a × (all_areas a ≤ largest_area) × (0 < all_areas a)
+pub record AreasWithin (a : Areas) : Type 0 where
+  pub «open» : a.«open».0 ≤ largest_area
+  pub paved : a.paved.0 ≤ largest_area
+  pub sewer : a.sewer.0 ≤ largest_area
+  pub unpaved : a.unpaved.0 ≤ largest_area
+  pub together : all_areas a ≤ largest_area
+  pub some : 0 < all_areas a
 
 -- The concentrations of a node are a list of flows, and of each flow a list of nutrients.
 
@@ -36,10 +33,9 @@ abbrev pub nutrient_count : ℕ
 nutrient_count = 3
 
 -- every flow is there, and has every nutrient
-abbrev pub Complete : List (List Concentration) → Type 0
-Complete by_flow =
-    (length by_flow ≡ flow_count)
-    × ((flow : ℕ) → flow < flow_count → length (slice_index_or by_flow flow []) ≡ nutrient_count)
+pub record Complete (by_flow : List (List Concentration)) : Type 0 where
+  pub flows : length by_flow ≡ flow_count
+  pub nutrients : (flow : ℕ) → flow < flow_count → length (slice_index_or by_flow flow []) ≡ nutrient_count
 
 -- the concentration of a nutrient in a flow; 0 of one that is not there
 abbrev pub concentration_of : List Concentration → ℕ → ℕ

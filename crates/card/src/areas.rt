@@ -16,6 +16,8 @@ pub struct Areas {
 }
 
 // Areas that are within their limits.
+// A type of its own: a generic one of a lower crate could have no calls of its own here, and lost `Copy` (tried). Checked by
+// `check`, the word of the field, and not by `TryFrom`.
 #[derive(Clone, Copy)]
 pub struct CheckedAreas {
     pub(crate) numbers: Areas,
@@ -27,8 +29,8 @@ impl Areas {
     pub fn check(self) -> Option<CheckedAreas>
         ensures { MatchOption result (AreasWithin self → ⊥) (λ areas. AreasWithin self × (areas.numbers ≡ self)) }
     {
-        let hard = self.open.0 as u64 + self.paved.0 as u64 + self.sewer.0 as u64;
-        let total = hard + self.unpaved.0 as u64;
+        let hard = u64::from(self.open.0) + u64::from(self.paved.0) + u64::from(self.sewer.0);
+        let total = hard + u64::from(self.unpaved.0);
         if total == 0 || total > LARGEST_AREA {
             return None;
         }
@@ -49,6 +51,7 @@ impl CheckedAreas {
     pub fn total(&self) -> Area
         ensures { result.0 ≡ all_areas self.now.numbers }
     {
+        // on the insides: an operator would have to ask for a bound, and by a rule of the project no public call does
         Area(self.hard().0 + self.numbers.unpaved.0)
     }
 

@@ -45,7 +45,9 @@ impl Card {
 impl CheckedCard {
     // The checked parts. The card is spent.
     pub fn parts(self) -> (CheckedAreas, CheckedSoil, CheckedConcentrations)
-        ensures { (result.0 ≡ self.areas) × (result.1 ≡ self.soil) × (result.2 ≡ self.concentrations) }
+        ensures areas { result.0 ≡ self.areas }
+        ensures soil { result.1 ≡ self.soil }
+        ensures concentrations { result.2 ≡ self.concentrations }
     {
         let CheckedCard {
             areas,

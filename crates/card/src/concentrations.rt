@@ -1,7 +1,7 @@
 // The concentrations of nutrients in a node's flows: as a caller gives them, and once they are checked.
 
-ghost use Rattle.card.specs.Limits.{Complete, ConcentrationsWithin, FlowWithin, nutrient_count};
-ghost use Rattle.std.specs.Prelude.{◌≡◌, length, Decides, MatchOption};
+ghost use Rattle.card.specs.Limits.{Complete, ConcentrationsWithin};
+ghost use Rattle.std.specs.Prelude.{◌≡◌, MatchOption};
 
 use quantity::load::Concentration;
 
@@ -20,6 +20,8 @@ pub struct Concentrations {
 }
 
 // Concentrations of which none is above the largest.
+// A type of its own: a generic one of a lower crate could have no calls of its own here, and lost `Copy` (tried). Checked by
+// `check`, the word of the field, and not by `TryFrom`.
 #[derive(Clone, Copy)]
 pub struct CheckedConcentrations {
     pub(crate) numbers: Concentrations,
@@ -27,28 +29,18 @@ pub struct CheckedConcentrations {
     ghost complete: { Complete numbers.by_flow },
 }
 
-// Whether none of a flow's concentrations, which are as many as the nutrients, is above the largest.
-fn flow_within(of_flow: &[Concentration; NUTRIENTS]) -> bool
-    ensures decides { Decides result (FlowWithin of_flow.now) }
-    ensures complete { length of_flow.now ≡ nutrient_count }
-{
-    for concentration in of_flow {
-        if concentration.0 > LARGEST_CONCENTRATION.0 {
-            return false;
-        }
-    }
-    true
-}
-
 impl Concentrations {
     // The concentrations with their numbers checked; none if one is above the largest.
     pub fn check(self) -> Option<CheckedConcentrations>
         ensures { MatchOption result (ConcentrationsWithin self.by_flow → ⊥) (λ checked. ConcentrationsWithin self.by_flow × (checked.numbers ≡ self)) }
     {
-        for of_flow in &self.by_flow {
-            if !flow_within(of_flow) {
-                return None;
-            }
+        let within = self
+            .by_flow
+            .iter()
+            .flatten()
+            .all(|concentration| *concentration <= LARGEST_CONCENTRATION);
+        if !within {
+            return None;
         }
         Some(CheckedConcentrations { numbers: self })
     }

@@ -15,11 +15,11 @@ pub enum CardFault {
     Concentrations,
 }
 
-impl CardFault {
-    pub fn told(self) -> Refusal
-        ensures { result ≡ refusal self }
-    {
-        let cause = match self {
+impl From<CardFault> for Refusal {
+    ghost from_gives = { λ fault told. told ≡ refusal fault };
+
+    fn from(fault: CardFault) -> Refusal {
+        let cause = match fault {
             CardFault::Areas => 1,
             CardFault::Soil => 2,
             CardFault::Concentrations => 3,

@@ -10,6 +10,7 @@ ghost use Rattle.reservoir.specs.Cells.{volumes};
 use crate::concentrations::{CheckedConcentrations, FLOWS, NUTRIENTS};
 use quantity::load::{Concentration, Load};
 use quantity::water::Centilitres;
+use std::array;
 
 // The load of one nutrient in one flow, small enough that many fit into a sum.
 fn flow_load(volume: Centilitres, concentration: Concentration) -> Load
@@ -26,11 +27,7 @@ impl CheckedConcentrations {
         ensures grow { LoadsGrow }
         ensures bounded { LoadsBounded }
     {
-        let mut loads = [Load(0); NUTRIENTS];
-        for nutrient in 0..NUTRIENTS {
-            loads[nutrient] = self.nutrient_load(flows, nutrient);
-        }
-        loads
+        array::from_fn(|nutrient| self.nutrient_load(flows, nutrient))
     }
 
     // The load of one nutrient.
@@ -38,10 +35,11 @@ impl CheckedConcentrations {
         requires { nutrient < nutrient_count }
         ensures { result.0 ≡ nutrient_load (volumes flows.now) self.now.numbers.by_flow nutrient }
     {
-        let mut sum = 0;
-        for flow in 0..FLOWS {
-            sum += flow_load(flows[flow], self.numbers.by_flow[flow][nutrient]).0;
-        }
-        Load(sum)
+        let tenths = flows
+            .iter()
+            .zip(&self.numbers.by_flow)
+            .map(|(volume, of_flow)| flow_load(*volume, of_flow[nutrient]).0)
+            .sum();
+        Load(tenths)
     }
 }

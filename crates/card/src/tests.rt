@@ -6,6 +6,7 @@ use crate::concentrations::{Concentrations, FLOWS, NUTRIENTS};
 use ground::soil::Soil;
 use quantity::load::{Concentration, Load};
 use quantity::water::{Area, Centilitres, Depth};
+use reservoir::fault::Refusal;
 use std::test::Fail;
 
 // Areas in the order of the fields, and whether they may be used.
@@ -44,9 +45,7 @@ fn areas_at_their_limits(rt: HostRuntime) {
 
 #[test]
 fn areas_together(rt: HostRuntime) -> Result<(), Fail> {
-    let Some(checked) = areas([1, 20, 300, 4000]).check() else {
-        return Err(Fail::new("refused"));
-    };
+    let checked = areas([1, 20, 300, 4000]).check().ok_or("refused")?;
     assert_eq!(rt; (checked.total().0, checked.hard().0), (4321, 321));
     Ok(())
 }
@@ -60,6 +59,7 @@ fn alike(concentration: u32) -> Concentrations {
 #[test]
 fn each_concentration_at_its_limit(rt: HostRuntime) {
     assert!(rt; alike(20_000).check().is_some());
+    // each place in turn is set, so it is counted
     for flow in 0..FLOWS {
         for nutrient in 0..NUTRIENTS {
             let mut by_flow = alike(20_000).by_flow;
@@ -69,14 +69,14 @@ fn each_concentration_at_its_limit(rt: HostRuntime) {
     }
 }
 
-// An unpaved area, a slow share of the soil and a concentration of every flow; and the cause of the refusal, 0 of none.
-const CAUSES: [([u32; 3], u8); 6] = [
-    ([1, 100, 20_000], 0),
-    ([0, 101, 20_001], 1),
-    ([1, 101, 20_001], 2),
-    ([1, 100, 20_001], 3),
-    ([0, 100, 20_000], 1),
-    ([1, 101, 20_000], 2),
+// An unpaved area, a slow share of the soil and a concentration of every flow; and the cause of the refusal.
+const CAUSES: [([u32; 3], Option<u8>); 6] = [
+    ([1, 100, 20_000], None),
+    ([0, 101, 20_001], Some(1)),
+    ([1, 101, 20_001], Some(2)),
+    ([1, 100, 20_001], Some(3)),
+    ([0, 100, 20_000], Some(1)),
+    ([1, 101, 20_000], Some(2)),
 ];
 
 fn card(numbers: [u32; 3]) -> Card {
@@ -100,10 +100,8 @@ fn card(numbers: [u32; 3]) -> Card {
 #[test]
 fn the_first_cause_is_told(rt: HostRuntime) {
     for (numbers, cause) in CAUSES {
-        let told = match card(numbers).check() {
-            Ok(_) => 0,
-            Err(fault) => fault.told().cause,
-        };
+        let fault = card(numbers).check().err();
+        let told = fault.map(|fault| Refusal::from(fault).cause);
         assert_eq!(rt; told, cause);
     }
 }

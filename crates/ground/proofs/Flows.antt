@@ -32,7 +32,7 @@ pub percolation_laws : EveryAdmissible PercolationLaws
 percolation_laws s a = record {
   within = λ m.
       let d : ℕ = min (m - field_capacity s) (drainable_depth s) in
-      let w = share_within (percolation_limit s) (drainable_depth s) d a.1.2 in omega arith;
+      let w = share_within (percolation_limit s) (drainable_depth s) d a.percolation_limit in omega arith;
   full = λ m h.
       let e : min (m - field_capacity s) (drainable_depth s) ≡ drainable_depth s = omega arith in
       let some : 0 < drainable_depth s = omega arith in
@@ -42,7 +42,7 @@ percolation_laws s a = record {
       let d : ℕ = min (m - field_capacity s) k in
       let e : ℕ = min (n - field_capacity s) k in
       let up : percolation_of s m ≤ percolation_of s n = share_more (percolation_limit s) k d e (omega arith) (omega arith) in
-      let slower : percolation_of s n ≤ percolation_of s m + (e - d) = share_slower (percolation_limit s) k d e (omega arith) a.1.2 (omega arith) in
+      let slower : percolation_of s n ≤ percolation_of s m + (e - d) = share_slower (percolation_limit s) k d e (omega arith) a.percolation_limit (omega arith) in
       (up, omega arith);
 }
 
@@ -51,8 +51,8 @@ sinking_laws s a = record { within = λ m k. omega arith; more = λ m n j k h l.
 
 pub slow_share_laws : EveryAdmissible SlowShareLaws
 slow_share_laws s a = record {
-  within = λ x. share_within s.slow_share 100 x a.2.1;
+  within = λ x. share_within s.slow_share 100 x a.slow_share;
   more = λ x y h.
-      let slower = share_slower s.slow_share 100 x y (omega arith) a.2.1 h in
+      let slower = share_slower s.slow_share 100 x y (omega arith) a.slow_share h in
       (share_more s.slow_share 100 x y (omega arith) h, omega arith);
 }

@@ -44,7 +44,7 @@ unfolding soaked
 stays_within s a m b f h =
     let i : ℕ = infiltration_of s m (f.rain.0 + b) in
     let t : ℕ = transpiration_of s (m + i) f.evaporation.0 in
-    let w = percolated_within s a ((m + i) - t) (omega arith) in (omega arith, omega arith)
+    let w = percolated_within s a ((m + i) - t) (omega arith) in record { in_soil = omega arith; in_storage = omega arith }
 
 pub more_gives_no_less : EveryAdmissible MoreGivesNoLess
 unfolding soaked

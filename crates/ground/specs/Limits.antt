@@ -26,32 +26,27 @@ depression_limit s = s.depression_limit.0
 abbrev pub drainable_depth : Soil → ℕ
 drainable_depth s = saturation_point s - field_capacity s
 
--- the depths of soil moisture: in order, and not too deep
-abbrev pub DepthsInOrder : Soil → Type 0
-DepthsInOrder s =
-    (wilting_point s ≤ field_capacity s) × (field_capacity s < saturation_point s) × (saturation_point s ≤ 200000)
-
--- the limits of infiltration, depression storage and percolation
-abbrev pub LimitsInRange : Soil → Type 0
-LimitsInRange s =
-    (infiltration_limit s ≤ 100000) × (depression_limit s ≤ 100000) × (percolation_limit s ≤ drainable_depth s)
-
--- the crop factor and the slow share, both in hundredths
-abbrev pub HundredthsInRange : Soil → Type 0
-HundredthsInRange s = (s.crop_factor ≤ 200) × (s.slow_share ≤ 100)
-
 -- the soils that may be used
-abbrev pub Admissible : Soil → Type 0
-Admissible s = DepthsInOrder s × LimitsInRange s × HundredthsInRange s
+pub record Admissible (s : Soil) : Type 0 where
+  -- the depths of soil moisture: in order, and not too deep
+  pub wilting_point : wilting_point s ≤ field_capacity s
+  pub field_capacity : field_capacity s < saturation_point s
+  pub saturation : saturation_point s ≤ 200000
+  pub infiltration_limit : infiltration_limit s ≤ 100000
+  pub depression_limit : depression_limit s ≤ 100000
+  pub percolation_limit : percolation_limit s ≤ drainable_depth s
+  -- both in hundredths
+  pub crop_factor : s.crop_factor ≤ 200
+  pub slow_share : s.slow_share ≤ 100
 
 -- the forcings that may be used
-abbrev pub InRange : Forcing → Type 0
-InRange f =
-    (f.rain.0 ≤ 100000)
-    × (f.evaporation.0 ≤ 10000)
-    × (neg_ℤ (pos 10000) ≤ℤ f.seepage)
-    × (f.seepage ≤ℤ pos 10000)
+pub record InRange (f : Forcing) : Type 0 where
+  pub rain : f.rain.0 ≤ 100000
+  pub evaporation : f.evaporation.0 ≤ 10000
+  pub sinking : neg_ℤ (pos 10000) ≤ℤ f.seepage
+  pub rising : f.seepage ≤ℤ pos 10000
 
 -- what the ground of a soil may hold: a depth of soil moisture and a depth in depression storage
-abbrev pub Holds : Soil → ℕ → ℕ → Type 0
-Holds s moisture depression = (moisture ≤ saturation_point s) × (depression ≤ depression_limit s)
+pub record Holds (s : Soil) (moisture depression : ℕ) : Type 0 where
+  pub in_soil : moisture ≤ saturation_point s
+  pub in_storage : depression ≤ depression_limit s

@@ -6,6 +6,13 @@ ghost use Rattle.std.specs.Prelude.{◌≡◌, MatchOption};
 
 use quantity::water::Depth;
 
+const LARGEST_RAIN: Depth = Depth(100_000);
+
+const LARGEST_EVAPORATION: Depth = Depth(10_000);
+
+// in points, both of what rises and of what sinks
+const LARGEST_SEEPAGE: i32 = 10_000;
+
 #[derive(Clone, Copy)]
 pub struct Forcing {
     pub rain: Depth,
@@ -16,6 +23,8 @@ pub struct Forcing {
 }
 
 // A forcing whose numbers are within their range.
+// A type of its own: a generic one of a lower crate could have no calls of its own here, and lost `Copy` (tried). Checked by
+// `check`, the word of the field, and not by `TryFrom`.
 #[derive(Clone, Copy)]
 pub struct CheckedForcing {
     pub(crate) numbers: Forcing,
@@ -27,14 +36,21 @@ impl Forcing {
     pub fn check(self) -> Option<CheckedForcing>
         ensures { MatchOption result (InRange self → ⊥) (λ forcing. InRange self × (forcing.numbers ≡ self)) }
     {
-        if self.rain.0 > 100_000
-            || self.evaporation.0 > 10_000
-            || self.seepage < -10_000
-            || self.seepage > 10_000
+        if self.rain > LARGEST_RAIN
+            || self.evaporation > LARGEST_EVAPORATION
+            || self.seepage < -LARGEST_SEEPAGE
+            || self.seepage > LARGEST_SEEPAGE
         {
             return None;
         }
         Some(CheckedForcing { numbers: self })
+    }
+
+    // The seepage that rises; 0 where it sinks.
+    pub fn rising_seepage(&self) -> Depth
+        ensures { result.0 ≡ rising_part self.now.seepage }
+    {
+        Depth(self.seepage.max(0) as u32)
     }
 }
 
@@ -51,7 +67,7 @@ impl CheckedForcing {
     pub fn rising_seepage(&self) -> Depth
         ensures { result.0 ≡ rising_part self.now.numbers.seepage }
     {
-        Depth(self.numbers.seepage.max(0) as u32)
+        Forcing::rising_seepage(&self.numbers)
     }
 
     // The seepage that sinks; 0 where it rises.

@@ -11,6 +11,8 @@ use crate::forcing::CheckedForcing;
 use crate::soil::CheckedSoil;
 use quantity::water::{Centilitres, Depth};
 
+// Sums and differences stand on the insides: an operator would have to ask for a bound, and by a rule of the project no public
+// call does.
 impl CheckedSoil {
     // What infiltrates of the water on the surface.
     pub fn infiltration(&self, moisture: Depth, surface: Depth) -> Depth
@@ -19,14 +21,14 @@ impl CheckedSoil {
     {
         let soil = self.numbers;
         let room = soil.saturation.0.saturating_sub(moisture.0) + soil.percolation_limit.0;
-        Depth(surface.0.min(soil.infiltration_limit.0).min(room))
+        surface.min(soil.infiltration_limit).min(Depth(room))
     }
 
     // What the depression storage keeps of the water that stays on the surface.
     pub fn depression_storage(&self, staying: Depth) -> Depth
         ensures { result.0 ≡ depression_of self.now.numbers staying.0 }
     {
-        Depth(staying.0.min(self.numbers.depression_limit.0))
+        staying.min(self.numbers.depression_limit)
     }
 
     // What runs off of the water that stays on the surface.
@@ -43,7 +45,8 @@ impl CheckedSoil {
         ensures laws { EveryAdmissible TranspirationLaws }
     {
         let demand = self.numbers.crop_factor * forcing.numbers.evaporation.0 / 100;
-        Depth(demand.min(moisture.0.saturating_sub(self.numbers.wilting_point.0)))
+        let available = moisture.0.saturating_sub(self.numbers.wilting_point.0);
+        Depth(demand.min(available))
     }
 
     // What percolates below the soil.
@@ -57,7 +60,8 @@ impl CheckedSoil {
             .0
             .saturating_sub(soil.field_capacity.0)
             .min(drainable);
-        let percolated = soil.percolation_limit.0 as u64 * above as u64 / drainable as u64;
+        let limit = u64::from(soil.percolation_limit.0);
+        let percolated = limit * u64::from(above) / u64::from(drainable);
         Depth(percolated as u32)
     }
 
@@ -66,8 +70,8 @@ impl CheckedSoil {
         ensures value { result.0 ≡ sinking_of self.now.numbers moisture.0 (sinking_part forcing.now.numbers.seepage) }
         ensures laws { EveryAdmissible SinkingLaws }
     {
-        let above = moisture.0.saturating_sub(self.numbers.field_capacity.0);
-        Depth(forcing.sinking_seepage().0.min(above))
+        let above = Depth(moisture.0.saturating_sub(self.numbers.field_capacity.0));
+        forcing.sinking_seepage().min(above)
     }
 
     // The slow part of a volume of water; the rest of it is quick.
@@ -75,7 +79,7 @@ impl CheckedSoil {
         ensures value { result.0 ≡ slow_part self.now.numbers volume.0 }
         ensures laws { EveryAdmissible SlowShareLaws }
     {
-        let hundredths = self.numbers.slow_share as u128 * volume.0 as u128;
+        let hundredths = u128::from(self.numbers.slow_share) * u128::from(volume.0);
         Centilitres((hundredths / 100) as u64)
     }
 }

@@ -30,6 +30,7 @@ impl Ground {
         ensures within { EveryAdmissible StaysWithin }
         ensures more { EveryAdmissible MoreGivesNoLess }
     {
+        // on the insides: an operator would have to ask for a bound, and by a rule of the project no public call does
         let soil = self.soil;
         let surface = Depth(forcing.numbers.rain.0 + self.depression.0);
         let infiltration = soil.infiltration(self.moisture, surface);

@@ -96,18 +96,17 @@ fn depths(step: &Soaking) -> [u32; 7] {
 }
 
 fn checked(rain: u32, evaporation: u32, seepage: i32) -> Result<CheckedForcing, Fail> {
-    match forcing(rain, evaporation, seepage).check() {
-        Some(checked) => Ok(checked),
-        None => Err(Fail::new("out of range")),
-    }
+    Ok(
+        forcing(rain, evaporation, seepage)
+            .check()
+            .ok_or("out of range")?,
+    )
 }
 
 #[test]
 fn two_steps(rt: HostRuntime) -> Result<(), Fail> {
     let soil = soil([10_000, 30_000, 40_000, 2000, 1000, 500, 80, 50]);
-    let Some(soil) = soil.check() else {
-        return Err(Fail::new("not admissible"));
-    };
+    let soil = soil.check().ok_or("not admissible")?;
     let first = Ground::new(soil).after(&checked(3000, 400, 0)?);
     assert_eq!(rt; depths(&first), [2000, 500, 320, 168, 0, 31_512, 500]);
     let second = first.ground.after(&checked(0, 0, -2000)?);

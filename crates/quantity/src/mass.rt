@@ -32,16 +32,15 @@ impl Account for Mass {
     }
 
     fn plus(self, amount: Load) -> Self {
-        let tenths = amount.0.saturating_add(self.rest as u128);
-        let grams = self.grams as u128 + tenths / GRAM;
-        if grams > u64::MAX as u128 {
+        let tenths = amount.0.saturating_add(u128::from(self.rest));
+        let Ok(grams) = u64::try_from(u128::from(self.grams) + tenths / GRAM) else {
             return Mass {
                 grams: u64::MAX,
-                rest: 9_999_999,
+                rest: (GRAM - 1) as u32,
             };
-        }
+        };
         Mass {
-            grams: grams as u64,
+            grams,
             rest: (tenths % GRAM) as u32,
         }
     }

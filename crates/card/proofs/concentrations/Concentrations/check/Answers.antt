@@ -1,15 +1,16 @@
-use Rattle.std.proofs.Common.{◌≡◌, [], length, arith, rules}
-use Rattle.card.specs.Limits.{flow_count, FlowWithin}
-use Rattle.card.proofs.Places.{at_any_place}
+use Rattle.std.proofs.Common.{rules}
+use Rattle.std.proofs.lemmas.Iterator.{YieldsList-from_slice}
+use Rattle.std.proofs.lemmas.Iterator.Adapters.{YieldsList-from_flatten}
+use Rattle.std.proofs.lemmas.Iterator.Search.{all_from_yields_List}
+use borrow.Author.Tests.{tests}
+use Rattle.card.proofs.Within.{may_be, all_may_be}
 use Rattle.card.proofs.concentrations.Concentrations.check.Goals as goal
 
-pub invariant_of-result : goal.invariant_of-result
-invariant_of-result c =
-    let by_flow = c.args.self.by_flow in
-    let all : length by_flow ≡ flow_count = search rules in
-    record {
-      within =
-          at_any_place FlowWithin by_flow [] flow_count (omega arith) (λ nutrient. omega arith)
-          (λ flow h. (c.loop-of_flow.invariant flow (omega arith)).0);
-      complete = (all, λ flow h. (c.loop-of_flow.invariant flow (omega arith)).1);
-    }
+pub returns-then-not-within : goal.returns-then-not-within
+returns-then-not-within c =
+    let tested =
+    all_from_yields_List may_be _ _ c.all-within.result c.all-within.ensures.ran
+    (YieldsList-from_flatten _ _ _ (λ of_flow. of_flow) (λ x j b. YieldsList-from_slice x.now b.0)
+    (YieldsList-from_slice c.args.self.by_flow (cc)) c.flatten.ensures.front c.flatten.ensures.back c.flatten.ensures.done)
+    (λ x b q k. search (rules, tests)) in
+    λ h. let all = all_may_be c.args.self.by_flow h in cc

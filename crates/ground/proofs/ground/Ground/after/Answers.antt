@@ -7,7 +7,12 @@ invariant_of-result c =
     let ground = c.args.self.now in
     let transpired = (ground.moisture.0 + c.infiltration-infiltration.result.0) - c.transpiration-transpiration.result.0 in
     let w = percolated_within ground.soil.numbers ground.soil.admissible transpired (omega arith) in
-    record { within = (omega (arith, c.percolation-percolation.ensures.value), omega (arith, c.depression_storage.ensures)) }
+    record {
+      within = record {
+        in_soil = omega (arith, c.percolation-percolation.ensures.value);
+        in_storage = omega (arith, c.depression_storage.ensures);
+      };
+    }
 
 pub returns : goal.returns
 returns c =
