@@ -7,6 +7,7 @@ use Rattle.places.specs.declared.place.Place.{Place}
 use Rattle.places.specs.declared.place.Place.TheVariants.{Open, Paved, Sewer, Surface, Quick, Slow}
 use Rattle.reservoir.specs.Makes.{fractions, steps}
 use Rattle.reservoir.specs.Meaning.{Settings, joined}
+use Rattle.reservoir.specs.declared.fault.Fault.{Fault}
 use Rattle.reservoir.specs.declared.fault.Fault.TheVariants.{InvalidSettings}
 
 -- the fractions are a linear reservoir's: recession ≤ retention ≤ 65,535
@@ -49,8 +50,8 @@ equips (place ∷ places) (f ∷ fs) = cond (valid f) (with (standing place f) (
 abbrev pub equipment : List Fractions → Result (List State) PlacedFault
 equipment fs = equips (Open ∷ Paved ∷ Sewer ∷ Surface ∷ Quick ∷ Slow ∷ []) fs
 
--- Providing one place with a reservoir: refused if and only if its fractions are not valid; else the reservoir is in the state s.
+-- Providing a reservoir: refused if and only if the fractions are not valid; else the reservoir is in the state s.
 -- The first argument says which state a reservoir of the type R is in.
-abbrev pub Provides : {R : Type 0} → (R → State) → Place → Fractions → State → Result R PlacedFault → Type 0
-Provides state place f s (Ok r) = (valid f ≡ true) × (state r ≡ s)
-Provides state place f s (Err fault) = (valid f ≡ false) × (fault ≡ invalid place)
+abbrev pub Provides : {R : Type 0} → (R → State) → Fractions → State → Result R Fault → Type 0
+Provides state f s (Ok r) = (valid f ≡ true) × (state r ≡ s)
+Provides state f s (Err fault) = (valid f ≡ false) × (fault ≡ InvalidSettings)

@@ -2,8 +2,8 @@
 // become them.
 
 ghost use Rattle.equipment.specs.Equipped.{Provides, equipment, linear_of, standing};
-ghost use Rattle.equipment.specs.Made.{in_series, lag_state, linear_state};
 ghost use Rattle.places.specs.declared.place.Place.TheVariants.{Sewer, Slow};
+ghost use Rattle.places.specs.States.{state};
 ghost use Rattle.std.specs.Prelude.{◌≡◌, IfOk, vec_len};
 
 use command::command::{Fractions, PLACES};
@@ -12,6 +12,8 @@ use places::fault::{PlacedFault, at};
 use places::makes::Makes;
 use places::place::Place;
 use places::reservoirs::Reservoirs;
+use reservoir::fault::Fault;
+use reservoir::interface::Reservoir;
 use reservoir::lag::Lag;
 use reservoir::linear::Linear;
 use reservoir::series::Series;
@@ -28,11 +30,7 @@ impl Ram {
     pub fn cells(heap: Global) -> Result<Vec<Option<Node<Reservoirs<Ram>>>>, AllocError>
         ensures { IfOk result (λ cells. vec_len cells ≡ 64) }
     {
-        let mut cells = Vec::new(heap);
-        for _ in 0..CELLS {
-            cells.push(None)?;
-        }
-        Ok(cells)
+        (0..CELLS).map(|_| None).collect(heap)
     }
 }
 
@@ -57,39 +55,37 @@ impl Equipment for Ram {
     ghost equipped = { equipment };
 
     fn equip(fractions: &[Fractions; PLACES]) -> Result<Reservoirs<Ram>, PlacedFault> {
-        let open = linear(fractions[0], Place::Open)?;
-        let paved = linear(fractions[1], Place::Paved)?;
-        let sewer = sewer(fractions[2])?;
-        let surface = linear(fractions[3], Place::Surface)?;
-        let quick = linear(fractions[4], Place::Quick)?;
-        let slow = slow(fractions[5])?;
-        Ok(Reservoirs::new(open, paved, sewer, surface, quick, slow))
+        let [open, paved, sewer, surface, quick, slow] = *fractions;
+        Ok(Reservoirs::new(
+            at(linear(open), Place::Open)?,
+            at(linear(paved), Place::Paved)?,
+            at(linear_then_lag(sewer), Place::Sewer)?,
+            at(linear(surface), Place::Surface)?,
+            at(linear(quick), Place::Quick)?,
+            at(linear_twice(slow), Place::Slow)?,
+        ))
     }
 }
 
-// A linear reservoir by the fractions of its place.
-fn linear(fractions: Fractions, place: Place) -> Result<Linear, PlacedFault>
-    ensures { Provides linear_state place fractions (linear_of fractions) result }
+// A linear reservoir.
+fn linear(fractions: Fractions) -> Result<Linear, Fault>
+    ensures { let made = ⟦<Linear as Reservoir>⟧ in Provides (state made.settings made.cells) fractions (linear_of fractions) result }
 {
     let recession = u64::from(fractions.recession);
     let retention = u64::from(fractions.retention);
-    at(Linear::new(recession, retention), place)
+    Linear::new(recession, retention)
 }
 
 // A linear reservoir followed by a lag of one step, which is never refused.
-fn sewer(fractions: Fractions) -> Result<Series<Linear, Lag>, PlacedFault>
-    ensures { Provides (in_series linear_state lag_state) Sewer fractions (standing Sewer fractions) result }
+fn linear_then_lag(fractions: Fractions) -> Result<Series<Linear, Lag>, Fault>
+    ensures { let made = ⟦<Series<Linear, Lag> as Reservoir>⟧ in Provides (state made.settings made.cells) fractions (standing Sewer fractions) result }
 {
-    let first = linear(fractions, Place::Sewer)?;
-    let second = at(Lag::new(1), Place::Sewer)?;
-    Ok(Series::join(first, second))
+    Ok(Series::join(linear(fractions)?, Lag::new(1)?))
 }
 
 // Two linear reservoirs that are alike.
-fn slow(fractions: Fractions) -> Result<Series<Linear, Linear>, PlacedFault>
-    ensures { Provides (in_series linear_state linear_state) Slow fractions (standing Slow fractions) result }
+fn linear_twice(fractions: Fractions) -> Result<Series<Linear, Linear>, Fault>
+    ensures { let made = ⟦<Series<Linear, Linear> as Reservoir>⟧ in Provides (state made.settings made.cells) fractions (standing Slow fractions) result }
 {
-    let first = linear(fractions, Place::Slow)?;
-    let second = linear(fractions, Place::Slow)?;
-    Ok(Series::join(first, second))
+    Ok(Series::join(linear(fractions)?, linear(fractions)?))
 }

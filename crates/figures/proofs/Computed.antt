@@ -1,5 +1,6 @@
 -- A test that computes, and that a figure which passes it holds.
 use Rattle.std.proofs.Common.{◌≡◌, ℕ, ◌+◌, Bool, true, ◌&&◌, eqb, ltb, leb, List, [], ◌∷◌, Ok, Err, sym, refl, ap, arith}
+use Rattle.std.specs.List.{list_all}
 use Rattle.std.proofs.lemmas.Bool.{and_parts, leb-true, ltb-true, eqb-true}
 use Rattle.ground.specs.Rules.{Soaked, soaked}
 use Rattle.quantity.specs.Amounts.{load_of, gram, tenths_of}
@@ -15,8 +16,8 @@ valid (lag_of n) = leb 1 n && leb n 12
 valid (series_of k l) = valid k && valid l
 
 valid_means : (k : Kind) → valid k ≡ true → (make_of k).Valid (settings_of k)
-valid_means (linear_of a b) e = let p = and_parts (leb a b) (leb b 65535) e in (leb-true a b p.0, leb-true b 65535 p.1)
-valid_means (lag_of n) e = let p = and_parts (leb 1 n) (leb n 12) e in (leb-true 1 n p.0, leb-true n 12 p.1)
+valid_means (linear_of a b) e = grind (arith, and_parts, leb-true)
+valid_means (lag_of n) e = grind (arith, and_parts, leb-true)
 valid_means (series_of k l) e = let p = and_parts (valid k) (valid l) e in (valid_means k p.0, valid_means l p.1)
 
 -- what is seen of a run from cells c, and what is held at its end
@@ -54,7 +55,7 @@ same q r =
 same_means : (q r : Soaked) → same q r ≡ true → q ≡ r
 same_means q r e = grind (arith, and_parts, eqb-true)
 
-abbrev passes : Figure → Bool
+abbrev pub passes : Figure → Bool
 passes (from_empty k os h) = valid k && runs (make_of k) (settings_of k) (empty (make_of k) (settings_of k)) os h
 passes (soaks s m b f r) = same (soaked s m b f) r
 passes (carries v c g r) = eqb (load_of v c) (tenths_of g r) && ltb r gram
@@ -64,15 +65,9 @@ passes_means (from_empty k os h) e =
     let p = and_parts (valid k) (runs (make_of k) (settings_of k) (empty (make_of k) (settings_of k)) os h) e in
     (valid_means k p.0, runs_means (make_of k) (settings_of k) (empty (make_of k) (settings_of k)) os h p.1)
 passes_means (soaks s m b f r) e = same_means (soaked s m b f) r e
-passes_means (carries v c g r) e =
-    let p = and_parts (eqb (load_of v c) (tenths_of g r)) (ltb r gram) e in
-    (eqb-true (load_of v c) (tenths_of g r) p.0, ltb-true r gram p.1)
+passes_means (carries v c g r) e = grind (arith, and_parts, eqb-true, ltb-true)
 
-abbrev pub all_pass : List Figure → Bool
-all_pass [] = true
-all_pass (f ∷ fs) = passes f && all_pass fs
-
-pub all_pass_means : (fs : List Figure) → all_pass fs ≡ true → AllHold fs
+pub all_pass_means : (fs : List Figure) → list_all passes fs ≡ true → AllHold fs
 all_pass_means [] e = tt
 all_pass_means (f ∷ fs) e =
-    let p = and_parts (passes f) (all_pass fs) e in (passes_means f p.0, all_pass_means fs p.1)
+    let p = and_parts (passes f) (list_all passes fs) e in (passes_means f p.0, all_pass_means fs p.1)

@@ -1,5 +1,6 @@
 -- The kinds of worked figures, and what it means that a figure holds of the engine's rules.
-use Rattle.std.specs.Prelude.{◌≡◌, ℕ, ◌<◌, List, [], ◌∷◌, ℤ, Ok, Err, Result}
+use Rattle.std.specs.Prelude.{◌≡◌, ℕ, ◌<◌, List, map, ℤ, Ok, Err, Result}
+use Rattle.std.specs.List.{AllByRecursion}
 use Rattle.ground.specs.Rules.{Soaked, soaked}
 use Rattle.ground.specs.declared.forcing.Forcing.{Forcing}
 use Rattle.ground.specs.declared.soil.Soil.{Soil}
@@ -37,8 +38,7 @@ seen volume (Ok given) = gives volume given.0
 seen volume (Err fault) = refused volume
 
 abbrev pub seen_in : List Taking → List Seen
-seen_in [] = []
-seen_in (t ∷ ts) = seen t.volume t.answer ∷ seen_in ts
+seen_in ts = map (λ t. seen t.volume t.answer) ts
 
 pub data Figure : Type 0 where
   -- a reservoir from empty: what is seen of its takings, and what it holds afterwards
@@ -77,5 +77,4 @@ Holds (carries volume concentration grams rest) = (load_of volume concentration 
 
 -- the rules give every figure of a table
 abbrev pub AllHold : List Figure → Type 0
-AllHold [] = Unit {0}
-AllHold (f ∷ fs) = Holds f × AllHold fs
+AllHold figures = AllByRecursion Holds figures

@@ -18,10 +18,7 @@ const INVALID: Refusal = Refusal {
 };
 
 fn refusal_of<T: Drop>(made: Result<T, Fault>) -> Option<Refusal> {
-    match made {
-        Ok(_) => None,
-        Err(fault) => Some(fault.told()),
-    }
+    made.err().map(Refusal::from)
 }
 
 #[test]

@@ -1,5 +1,5 @@
 -- Reservoirs in a list, an entry for each place, with a list of makes and a list of volumes beside them.
-use Rattle.std.specs.Prelude.{◌≡◌, ℕ, zero, suc, ◌+◌, ◌-◌, ◌^◌, ◌<◌, min, List, [], ◌∷◌}
+use Rattle.std.specs.Prelude.{ℕ, zero, suc, ◌+◌, ◌-◌, ◌^◌, ◌<◌, min, List, [], ◌∷◌}
 use Rattle.reservoir.specs.Cells.{capacity, held, emptied}
 use Rattle.reservoir.specs.Meaning.{Settings, Make, Meaning, Fits, Accepts}
 
@@ -11,10 +11,6 @@ pub record State : Type 0 where
 -- the state of a reservoir of the type R; the first two arguments say which settings and cells it has
 abbrev pub state : {R : Type 0} → (R → Settings) → (R → List ℕ) → R → State
 state settings cells r = record { settings = settings r; cells = cells r }
-
--- a reservoir of the type R with the settings that it had, and every cell 0
-abbrev pub Emptied : {R : Type 0} → (R → Settings) → (R → List ℕ) → R → R → Type 0
-Emptied settings cells before after = (settings after ≡ settings before) × (cells after ≡ emptied (cells before))
 
 -- every make has a reservoir's meaning
 abbrev pub Meanings : List Make → Type 0

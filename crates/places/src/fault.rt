@@ -12,25 +12,21 @@ pub struct PlacedFault {
     pub place: Place,
 }
 
-impl PlacedFault {
-    pub fn told(self) -> Refusal
-        ensures { result ≡ placed_refusal self }
-    {
-        let told = self.fault.told();
+impl From<PlacedFault> for Refusal {
+    ghost from_gives = { λ fault told. told ≡ placed_refusal fault };
+
+    fn from(fault: PlacedFault) -> Refusal {
         Refusal {
-            cause: told.cause,
-            layer: told.layer,
-            place: self.place.number(),
+            place: u8::from(fault.place),
+            ..Refusal::from(fault.fault)
         }
     }
 }
 
-// An answer of the reservoir at a place: a fault gets the place.
+// An answer of the reservoir at a place: a fault gets the place. Three reservoirs side by side have their own such function: a
+// fault generic over the place would be foreign here, and could not be converted to a refusal.
 pub fn at<T>(answer: Result<T, Fault>, place: Place) -> Result<T, PlacedFault>
     ensures { result ≡ placed answer place }
 {
-    match answer {
-        Ok(value) => Ok(value),
-        Err(fault) => Err(PlacedFault { fault, place }),
-    }
+    answer.map_err(|fault| PlacedFault { fault, place })
 }

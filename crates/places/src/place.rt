@@ -3,28 +3,21 @@
 ghost use Rattle.places.specs.Numbers.{number};
 ghost use Rattle.std.specs.Prelude.{◌≡◌};
 
+// Each by its number, from 1 to 6.
 #[derive(Clone, Copy, PartialEq, Eq, Debug)]
 pub enum Place {
-    Open,
-    Paved,
-    Sewer,
-    Surface,
-    Quick,
-    Slow,
+    Open = 1,
+    Paved = 2,
+    Sewer = 3,
+    Surface = 4,
+    Quick = 5,
+    Slow = 6,
 }
 
-impl Place {
-    // Its number, from 1 to 6.
-    pub fn number(self) -> u8
-        ensures { result ≡ number self }
-    {
-        match self {
-            Place::Open => 1,
-            Place::Paved => 2,
-            Place::Sewer => 3,
-            Place::Surface => 4,
-            Place::Quick => 5,
-            Place::Slow => 6,
-        }
+impl From<Place> for u8 {
+    ghost from_gives = { λ place n. n ≡ number place };
+
+    fn from(place: Place) -> u8 {
+        place as u8
     }
 }

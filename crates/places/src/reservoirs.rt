@@ -1,8 +1,8 @@
 // Six reservoirs of the makes of a district.
 
 ghost use Rattle.places.specs.Laws.{Laws};
-ghost use Rattle.places.specs.States.{state, Emptied};
-ghost use Rattle.std.specs.Prelude.{[], ◌∷◌, refl};
+ghost use Rattle.places.specs.States.{state, each_emptied};
+ghost use Rattle.std.specs.Prelude.{◌≡◌, [], ◌∷◌, refl};
 
 use crate::fault::{PlacedFault, at};
 use crate::interface::Places;
@@ -31,13 +31,9 @@ impl<M: Makes> Reservoirs<M> {
         quick: M::Quick,
         slow: M::Slow,
     ) -> Self
-        ensures emptied { Emptied M.Open.Reservoir.settings M.Open.Reservoir.cells «open» result.open
-            × Emptied M.Paved.Reservoir.settings M.Paved.Reservoir.cells paved result.paved
-            × Emptied M.Sewer.Reservoir.settings M.Sewer.Reservoir.cells sewer result.sewer
-            × Emptied M.Surface.Reservoir.settings M.Surface.Reservoir.cells surface result.surface
-            × Emptied M.Quick.Reservoir.settings M.Quick.Reservoir.cells quick result.quick
-            × Emptied M.Slow.Reservoir.settings M.Slow.Reservoir.cells slow result.slow }
-        ensures laws { Laws (M.Open.Reservoir.make ∷ M.Paved.Reservoir.make ∷ M.Sewer.Reservoir.make ∷ M.Surface.Reservoir.make ∷ M.Quick.Reservoir.make ∷ M.Slow.Reservoir.make ∷ []) }
+        ensures emptied { let states = ⟦<Reservoirs<M> as Places>⟧.reservoirs in
+            states result ≡ each_emptied (states (record { «open» = «open»; paved = paved; sewer = sewer; surface = surface; quick = quick; slow = slow })) }
+        ensures laws { Laws ⟦<Reservoirs<M> as Places>⟧.makes }
     {
         let mut all = Self {
             open,
@@ -53,37 +49,37 @@ impl<M: Makes> Reservoirs<M> {
 }
 
 impl<M: Makes> Places for Reservoirs<M> {
-    ghost makes = { M.Open.Reservoir.make ∷ M.Paved.Reservoir.make ∷ M.Sewer.Reservoir.make ∷ M.Surface.Reservoir.make ∷ M.Quick.Reservoir.make ∷ M.Slow.Reservoir.make ∷ [] };
+    ghost makes = { M.Open.make ∷ M.Paved.make ∷ M.Sewer.make ∷ M.Surface.make ∷ M.Quick.make ∷ M.Slow.make ∷ [] };
 
     ghost reservoirs = { λ p.
-        state M.Open.Reservoir.settings M.Open.Reservoir.cells p.open
-        ∷ state M.Paved.Reservoir.settings M.Paved.Reservoir.cells p.paved
-        ∷ state M.Sewer.Reservoir.settings M.Sewer.Reservoir.cells p.sewer
-        ∷ state M.Surface.Reservoir.settings M.Surface.Reservoir.cells p.surface
-        ∷ state M.Quick.Reservoir.settings M.Quick.Reservoir.cells p.quick
-        ∷ state M.Slow.Reservoir.settings M.Slow.Reservoir.cells p.slow
+        state M.Open.settings M.Open.cells p.open
+        ∷ state M.Paved.settings M.Paved.cells p.paved
+        ∷ state M.Sewer.settings M.Sewer.cells p.sewer
+        ∷ state M.Surface.settings M.Surface.cells p.surface
+        ∷ state M.Quick.settings M.Quick.cells p.quick
+        ∷ state M.Slow.settings M.Slow.cells p.slow
         ∷ [] };
 
     ghost six = { refl };
 
     ghost meanings = { (
-      M.Open.Reservoir.meaning,
+      M.Open.meaning,
       (
-        M.Paved.Reservoir.meaning,
+        M.Paved.meaning,
         (
-          M.Sewer.Reservoir.meaning,
-          (M.Surface.Reservoir.meaning, (M.Quick.Reservoir.meaning, (M.Slow.Reservoir.meaning, tt))),
+          M.Sewer.meaning,
+          (M.Surface.meaning, (M.Quick.meaning, (M.Slow.meaning, tt))),
         ),
       ),
     ) };
 
     ghost fits = { λ p. (
-      M.Open.Reservoir.fits p.open,
+      M.Open.fits p.open,
       (
-        M.Paved.Reservoir.fits p.paved,
+        M.Paved.fits p.paved,
         (
-          M.Sewer.Reservoir.fits p.sewer,
-          (M.Surface.Reservoir.fits p.surface, (M.Quick.Reservoir.fits p.quick, (M.Slow.Reservoir.fits p.slow, tt))),
+          M.Sewer.fits p.sewer,
+          (M.Surface.fits p.surface, (M.Quick.fits p.quick, (M.Slow.fits p.slow, tt))),
         ),
       ),
     ) };
@@ -111,19 +107,13 @@ impl<M: Makes> Places for Reservoirs<M> {
 
     fn take(&mut self, volumes: &Volumes) -> Result<Volumes, PlacedFault> {
         self.offer(volumes)?;
-        let open = at(self.open.take(volumes.open), Place::Open)?;
-        let paved = at(self.paved.take(volumes.paved), Place::Paved)?;
-        let sewer = at(self.sewer.take(volumes.sewer), Place::Sewer)?;
-        let surface = at(self.surface.take(volumes.surface), Place::Surface)?;
-        let quick = at(self.quick.take(volumes.quick), Place::Quick)?;
-        let slow = at(self.slow.take(volumes.slow), Place::Slow)?;
         Ok(Volumes {
-            open,
-            paved,
-            sewer,
-            surface,
-            quick,
-            slow,
+            open: at(self.open.take(volumes.open), Place::Open)?,
+            paved: at(self.paved.take(volumes.paved), Place::Paved)?,
+            sewer: at(self.sewer.take(volumes.sewer), Place::Sewer)?,
+            surface: at(self.surface.take(volumes.surface), Place::Surface)?,
+            quick: at(self.quick.take(volumes.quick), Place::Quick)?,
+            slow: at(self.slow.take(volumes.slow), Place::Slow)?,
         })
     }
 

@@ -69,15 +69,13 @@ fn refuses_at_the_lowest_place(rt: HostRuntime) -> Result<(), Fail> {
     let mut large = volumes(1000, 1000);
     large.surface = CAPACITY;
     large.slow = CAPACITY;
-    let Err(fault) = places.take(&large) else {
-        return Err(Fail::new("taken"));
-    };
+    let fault = places.take(&large).err().ok_or("taken")?;
     let expected = Refusal {
         cause: 5,
         layer: 4,
         place: 4,
     };
-    assert_eq!(rt; fault.told(), expected);
+    assert_eq!(rt; Refusal::from(fault), expected);
     assert_eq!(rt; places.contents(), volumes(1000, 750));
     Ok(())
 }

@@ -27,9 +27,9 @@ kept_more a b s t v w h k i j =
     let y = grows b v w k j in (omega arith, omega arith)
 
 held_one : (c : List ℕ) → length c ≡ 1 → held c ≡ slice_index c 0
-held_one [] h = let z : ⊥ = omega arith in elim z [ ]
+held_one [] h = omega arith
 held_one (x ∷ []) h = omega arith
-held_one (x ∷ y ∷ ys) h = let z : ⊥ = omega arith in elim z [ ]
+held_one (x ∷ y ∷ ys) h = omega arith
 
 pub linear_meaning : Meaning linear
 linear_meaning = record {

@@ -25,8 +25,8 @@ parts m n mm s c v f r =
     let b = mm.balance (of_first s) (take k c) v a q in
     record { first = a; second = (f.0.1, omega arith); room = q; passes = omega arith }
 
-pub series_meaning : (m n : Make) → Meaning m → Meaning n → Meaning (series m n)
-series_meaning m n mm mn = record {
+pub series_meaning : {m n : Make} → Meaning m → Meaning n → Meaning (series m n)
+series_meaning {m} {n} mm mn = record {
   keeps = λ s c v f r.
       let p = parts m n mm s c v f r in
       let a = take (m.size (of_first s)) c in

@@ -1,5 +1,6 @@
 pub mod Cells
 pub mod Meaning
+pub mod Coding
 pub mod Makes
 pub mod Faults
 pub mod Answers
@@ -7,3 +8,4 @@ pub mod Delay
 pub mod Lists
 pub mod Fractions
 pub mod Joining
+pub mod InUse

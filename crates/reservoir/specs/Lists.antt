@@ -19,6 +19,12 @@ pub emptied-++ : (c d : List ℕ) → emptied (c ++ d) ≡ emptied c ++ emptied 
 emptied-++ c d =
     ap (λ n. replicate n 0) (length-append c d) ∙ sym (replicate-append-replicate (length c) (length d) 0)
 
+pub held_emptied : (c : List ℕ) → held (emptied c) ≡ 0
+held_emptied c = held_zeros (length c)
+
+-- what joined cells hold, and how they are emptied
+pub ruleset of_joined = (held-++, emptied-++, held_emptied)
+
 pub at_most_take : (k : ℕ) (c d : List ℕ) → AtMost c d → AtMost (take k c) (take k d)
 at_most_take zero c d h = tt
 at_most_take (suc k) [] [] h = tt

@@ -11,7 +11,8 @@ pub enum Fault {
     OverCapacity,
 }
 
-// A refusal as it is told: its cause, the layer that refuses, and the place, 0 where there is none.
+// A refusal as it is told: its cause, the layer that refuses, and the place, 0 where there is none. Numbers and no enums, by a
+// rule of the project: sheets and whoever reads their pages know them by number.
 #[derive(Clone, Copy, PartialEq, Eq, Debug)]
 pub struct Refusal {
     pub cause: u8,
@@ -19,11 +20,11 @@ pub struct Refusal {
     pub place: u8,
 }
 
-impl Fault {
-    pub fn told(self) -> Refusal
-        ensures { result ≡ refusal self }
-    {
-        match self {
+impl From<Fault> for Refusal {
+    ghost from_gives = { λ fault told. told ≡ refusal fault };
+
+    fn from(fault: Fault) -> Refusal {
+        match fault {
             Fault::InvalidSettings => Refusal {
                 cause: 4,
                 layer: 4,

@@ -13,6 +13,7 @@ use quantity::water::Centilitres;
 // The largest volume that a reservoir may hold.
 pub const CAPACITY: Centilitres = Centilitres(100_000_000_000_000);
 
+// No make has a model: the laws at the end speak of every value of `Self`, and the value of a model forgets its invariant.
 pub trait Reservoir: Sized + Drop {
     // what the make does, and the settings and cells of one reservoir
     ghost make: { Make };
@@ -29,7 +30,7 @@ pub trait Reservoir: Sized + Drop {
     fn offer(&self, volume: Centilitres) -> Result<(), Fault>
         ensures { Offers (cells self.now) volume.0 result }
     {
-        if self.content().plus(volume).0 > CAPACITY.0 {
+        if self.content().plus(volume) > CAPACITY {
             return Err(Fault::OverCapacity);
         }
         Ok(())

@@ -26,7 +26,8 @@ pub struct Linear {
 }
 
 impl Linear {
-    // An empty linear reservoir, where a ≤ b ≤ 65,535.
+    // An empty linear reservoir, where a ≤ b ≤ 65,535. The fractions are two parameters and no struct: callers have structs
+    // of their own, of other widths (a sheet's numbers, a storm's settings).
     pub fn new(recession: u64, retention: u64) -> Result<Linear, Fault>
         ensures { Makes linear (λ l. fractions l.recession l.retention) (λ l. l.storage.0 ∷ []) (fractions recession retention) result }
     {
@@ -66,6 +67,7 @@ impl Reservoir for Linear {
 
     fn take(&mut self, volume: Centilitres) -> Result<Centilitres, Fault> {
         self.offer(volume)?;
+        // on the insides: an operator would have to ask for a bound, and by a rule of the project no public call does
         let all = self.storage.0 + volume.0;
         let kept = self.kept(volume);
         self.storage = Centilitres(kept);

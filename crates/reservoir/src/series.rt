@@ -1,10 +1,10 @@
 // Two reservoirs of any makes in series: what the first gives, the second takes in the same step.
+#![tactic(auto, using(crate::specs::Lists::of_joined))]
 
-ghost use Rattle.reservoir.specs.Answers.{Takes};
-ghost use Rattle.reservoir.specs.Cells.{emptied};
+ghost use Rattle.reservoir.specs.Cells.{capacity, emptied, held};
 ghost use Rattle.reservoir.specs.Makes.{series};
-ghost use Rattle.reservoir.specs.Meaning.{Accepts, joined};
-ghost use Rattle.std.specs.Prelude.{◌≡◌, ◌++◌};
+ghost use Rattle.reservoir.specs.Meaning.{joined};
+ghost use Rattle.std.specs.Prelude.{◌≡◌, ◌≤◌, ◌++◌};
 ghost use Rattle.reservoir.specs.Joining.{series_fits, series_meaning};
 
 use crate::fault::Fault;
@@ -13,46 +13,35 @@ use quantity::account::Account;
 use quantity::water::Centilitres;
 
 #[derive(Drop)]
-pub struct Series<F, S> {
+pub struct Series<F: Reservoir, S: Reservoir> {
     first: F,
     second: S,
+    ghost within: { held (F.cells first ++ S.cells second) ≤ capacity },
 }
 
 impl<F: Reservoir, S: Reservoir> Series<F, S> {
     // Joins two reservoirs and empties both.
-    pub fn join(first: F, second: S) -> Self
-        ensures same_settings { (F.Reservoir.settings result.first ≡ F.Reservoir.settings first) × (S.Reservoir.settings result.second ≡ S.Reservoir.settings second) }
-        ensures all_zero { (F.Reservoir.cells result.first ≡ emptied (F.Reservoir.cells first)) × (S.Reservoir.cells result.second ≡ emptied (S.Reservoir.cells second)) }
+    pub fn join(mut first: F, mut second: S) -> Self
+        ensures same_settings { (F.settings result.first ≡ F.settings first) × (S.settings result.second ≡ S.settings second) }
+        ensures all_zero { (F.cells result.first ≡ emptied (F.cells first)) × (S.cells result.second ≡ emptied (S.cells second)) }
     {
-        let mut both = Series { first, second };
-        both.first.empty();
-        both.second.empty();
-        both
-    }
-
-    // Takes a volume that there is room for.
-    fn pass(&mut self, volume: Centilitres) -> Result<Centilitres, Fault>
-        requires { Accepts (F.Reservoir.cells self.old.first ++ S.Reservoir.cells self.old.second) volume.0 }
-        ensures same { (F.Reservoir.settings self.new.first ≡ F.Reservoir.settings self.old.first) × (S.Reservoir.settings self.new.second ≡ S.Reservoir.settings self.old.second) }
-        ensures answer { Takes (series F.Reservoir.make S.Reservoir.make) (joined (F.Reservoir.settings self.old.first) (S.Reservoir.settings self.old.second)) (F.Reservoir.cells self.old.first ++ S.Reservoir.cells self.old.second) volume.0 result (F.Reservoir.cells self.new.first ++ S.Reservoir.cells self.new.second) }
-    {
-        let between = self.first.take(volume)?;
-        let given = self.second.take(between)?;
-        Ok(given)
+        first.empty();
+        second.empty();
+        Series { first, second }
     }
 }
 
 impl<F: Reservoir, S: Reservoir> Reservoir for Series<F, S> {
-    ghost make = { series F.Reservoir.make S.Reservoir.make };
+    ghost make = { series F.make S.make };
 
-    ghost settings = { λ r. joined (F.Reservoir.settings r.first) (S.Reservoir.settings r.second) };
+    ghost settings = { λ r. joined (F.settings r.first) (S.settings r.second) };
 
-    ghost cells = { λ r. F.Reservoir.cells r.first ++ S.Reservoir.cells r.second };
+    ghost cells = { λ r. F.cells r.first ++ S.cells r.second };
 
-    ghost meaning = { series_meaning F.Reservoir.make S.Reservoir.make F.Reservoir.meaning S.Reservoir.meaning };
+    ghost meaning = { series_meaning F.meaning S.meaning };
 
-    ghost fits = { λ r. series_fits F.Reservoir.make S.Reservoir.make (F.Reservoir.settings r.first) (S.Reservoir.settings r.second)
-        (F.Reservoir.cells r.first) (S.Reservoir.cells r.second) (F.Reservoir.fits r.first) (S.Reservoir.fits r.second) };
+    ghost fits = { λ r. series_fits F.make S.make _ _ (F.cells r.first) (S.cells r.second)
+        (F.fits r.first) (S.fits r.second) };
 
     fn content(&self) -> Centilitres {
         self.first.content().plus(self.second.content())
@@ -60,7 +49,9 @@ impl<F: Reservoir, S: Reservoir> Reservoir for Series<F, S> {
 
     fn take(&mut self, volume: Centilitres) -> Result<Centilitres, Fault> {
         self.offer(volume)?;
-        self.pass(volume)
+        let between = self.first.take(volume)?;
+        let given = self.second.take(between)?;
+        Ok(given)
     }
 
     fn empty(&mut self) {

@@ -1,13 +1,16 @@
-use Rattle.std.proofs.Common.{rules}
 use Rattle.places.proofs.Together.{laws}
 use Rattle.places.proofs.reservoirs.Reservoirs.new.Goals as goal
 
-pub returns : goal.returns
-returns g c =
-    record {
-      emptied = search rules;
-      laws = laws _ (
-        g.met.M.Open.Reservoir.meaning,
-        (g.met.M.Paved.Reservoir.meaning, (g.met.M.Sewer.Reservoir.meaning, (g.met.M.Surface.Reservoir.meaning, (g.met.M.Quick.Reservoir.meaning, (g.met.M.Slow.Reservoir.meaning, tt))))),
-      );
-    }
+pub returns-clause-laws : goal.returns-clause-laws
+returns-clause-laws g c =
+    let makes = g.met.M in
+    laws _ (
+      makes.Open.Reservoir.meaning,
+      (
+        makes.Paved.Reservoir.meaning,
+        (
+          makes.Sewer.Reservoir.meaning,
+          (makes.Surface.Reservoir.meaning, (makes.Quick.Reservoir.meaning, (makes.Slow.Reservoir.meaning, tt))),
+        ),
+      ),
+    )
