@@ -1,39 +1,33 @@
--- Emptied gauges of the makes with which a storm is routed, and what a line of three numbers says.
-use Rattle.std.proofs.Common.{◌≡◌, ℕ, List, [], ◌∷◌, length, get_or, replicate, Ok, Err, Result, refl, ap, ◌∙◌, subst, arith, MatchResult}
-use lib.ListN.{length-replicate}
+-- What a line of three numbers says of the reservoirs that they make.
+use Rattle.std.proofs.Common.{ℕ, List, [], ◌∷◌, get_or, Ok, Err, Result, arith, MatchResult}
 use Rattle.decimal.specs.Reading.{WritesAll}
-use Rattle.hydrograph.specs.Prepared.{fresh}
+use Rattle.hydrograph.specs.Prepared.{Prepares}
 use Rattle.hydrograph.specs.Refusals.{Written, RefusesNumbers, RefusesSettings}
 use Rattle.hydrograph.specs.declared.refused.SettingsFault.{SettingsFault}
 use Rattle.hydrograph.specs.declared.refused.SettingsFault.TheVariants.{NotThreeNumbers, Linear, Lag}
-use Rattle.reservoir.specs.Cells.{emptied}
-use Rattle.reservoir.specs.Meaning.{Settings}
+use Rattle.hydrograph.specs.declared.storm.Settings.{Settings}
+use Rattle.reservoir.specs.contracts.lag.LagReservoir.TheImpl.{ghosts as of_lag}
+use Rattle.reservoir.specs.contracts.linear.LinearReservoir.TheImpl.{ghosts as of_linear}
+use Rattle.reservoir.specs.declared.lag.Lag.{Lag as LagReservoir}
+use Rattle.reservoir.specs.declared.linear.Linear.{Linear as LinearReservoir}
+use Rattle.reservoir.specs.declared.series.Series.{Series}
+use Rattle.routing.specs.declared.side_by_side.SideBySide.{SideBySide}
 
-pub emptied_zeros : (n : ℕ) (c : List ℕ) → c ≡ replicate n 0 → emptied c ≡ replicate n 0
-emptied_zeros n c e = ap (λ k. replicate k 0) (ap length e ∙ length-replicate n 0)
+-- the settings that three numbers are
+abbrev settings_of : List ℕ → Settings
+settings_of ns = record { recession = get_or ns 0 0; retention = get_or ns 1 0; steps = get_or ns 2 0 }
 
-pub fresh_same : {s t : Settings} {c d : List ℕ} → s ≡ t → c ≡ d → fresh s c ≡ fresh t d
-fresh_same e f = cc
+written : (line ns : List ℕ) (P : Settings → Type 0) → WritesAll 3 line ns → P (settings_of ns) → Written line P
+written line [] P w h = absurd (omega (arith, w.0))
+written line (a ∷ []) P w h = absurd (omega (arith, w.0))
+written line (a ∷ b ∷ []) P w h = absurd (omega (arith, w.0))
+written line (a ∷ b ∷ n ∷ []) P w h = record { settings = settings_of (a ∷ b ∷ n ∷ []); writes = w; holds = h }
+written line (a ∷ b ∷ n ∷ m ∷ ms) P w h = absurd (omega (arith, w.0))
 
-three : (ns : List ℕ) → length ns ≡ 3 → ns ≡ get_or ns 0 0 ∷ get_or ns 1 0 ∷ get_or ns 2 0 ∷ []
-three [] e = let z : ⊥ = omega arith in elim z [ ]
-three (x ∷ []) e = let z : ⊥ = omega arith in elim z [ ]
-three (x ∷ y ∷ []) e = let z : ⊥ = omega arith in elim z [ ]
-three (x ∷ y ∷ z ∷ []) e = refl
-three (x ∷ y ∷ z ∷ w ∷ ws) e = let n : ⊥ = omega arith in elim n [ ]
-
-written : (line ns : List ℕ) (P : ℕ → ℕ → ℕ → Type 0) → WritesAll 3 line ns → P (get_or ns 0 0) (get_or ns 1 0) (get_or ns 2 0) → Written line P
-written line ns P w h =
-    record { a = get_or ns 0 0; b = get_or ns 1 0; n = get_or ns 2 0; writes = subst (λ xs. WritesAll 3 line xs) (three ns w.0) w; holds = h }
-
-refused : (line ns : List ℕ) (f : SettingsFault) → WritesAll 3 line ns →
-    RefusesNumbers (get_or ns 0 0) (get_or ns 1 0) (get_or ns 2 0) f → RefusesSettings line f
-refused line ns NotThreeNumbers w h = elim h [ ]
-refused line ns (Linear fault) w h = written line ns (λ a b n. RefusesNumbers a b n (Linear fault)) w h
-refused line ns (Lag fault) w h = written line ns (λ a b n. RefusesNumbers a b n (Lag fault)) w h
-
-pub prepared : {M : Type 0} (line ns : List ℕ) (P : ℕ → ℕ → ℕ → M → Type 0) (r : Result M SettingsFault) → WritesAll 3 line ns →
-    MatchResult r (P (get_or ns 0 0) (get_or ns 1 0) (get_or ns 2 0)) (RefusesNumbers (get_or ns 0 0) (get_or ns 1 0) (get_or ns 2 0)) →
-    MatchResult r (λ made. Written line (λ a b n. P a b n made)) (RefusesSettings line)
-prepared line ns P (Ok made) w h = written line ns (λ a b n. P a b n made) w h
-prepared line ns P (Err fault) w h = refused line ns fault w h
+pub prepared : (line ns : List ℕ) (r : Result (SideBySide LinearReservoir LagReservoir (Series LinearReservoir LagReservoir of_linear of_lag)) SettingsFault) →
+    WritesAll 3 line ns → MatchResult r (Prepares (settings_of ns)) (RefusesNumbers (settings_of ns)) →
+    MatchResult r (λ made. Written line (λ s. Prepares s made)) (RefusesSettings line)
+prepared line ns (Ok made) w h = written line ns (λ s. Prepares s made) w h
+prepared line ns (Err NotThreeNumbers) w h = absurd h
+prepared line ns (Err (Linear fault)) w h = written line ns (λ s. RefusesNumbers s (Linear fault)) w h
+prepared line ns (Err (Lag fault)) w h = written line ns (λ s. RefusesNumbers s (Lag fault)) w h

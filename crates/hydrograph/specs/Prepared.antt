@@ -1,37 +1,35 @@
 -- The reservoirs that the settings of a storm make.
-use Rattle.std.specs.Prelude.{◌≡◌, ℕ, List, [], ◌∷◌, ◌++◌, replicate}
+use Rattle.std.specs.Prelude.{◌≡◌, ℕ, List, [], ◌∷◌, replicate}
+use Rattle.hydrograph.specs.declared.storm.Settings.{Settings}
 use Rattle.reservoir.specs.Makes.{linear, lag, fractions, steps}
-use Rattle.reservoir.specs.Meaning.{Settings, joined}
+use Rattle.reservoir.specs.Meaning.{Settings as MakeSettings, joined}
 use Rattle.reservoir.specs.contracts.lag.LagReservoir.TheImpl.{ghosts as of_lag}
 use Rattle.reservoir.specs.contracts.linear.LinearReservoir.TheImpl.{ghosts as of_linear}
 use Rattle.reservoir.specs.declared.lag.Lag.{Lag}
 use Rattle.reservoir.specs.declared.linear.Linear.{Linear}
 use Rattle.reservoir.specs.declared.series.Series.{Series}
-use Rattle.routing.specs.Gauges.{Gauge, gauge}
+use Rattle.routing.specs.Gauges.{Gauge}
 use Rattle.routing.specs.declared.side_by_side.SideBySide.{SideBySide}
 
--- an empty linear reservoir and an empty lag of valid settings a, b and n
-pub record LinearAndLag (a b n : ℕ) (first : Linear) (second : Lag) : Type 0 where
-  pub fractions_valid : linear.Valid (fractions a b)
-  pub steps_valid : lag.Valid (steps n)
-  pub linear_settings : of_linear.settings first ≡ fractions a b
+-- an empty linear reservoir and an empty lag of valid settings
+pub record LinearAndLag (s : Settings) (first : Linear) (second : Lag) : Type 0 where
+  pub fractions_valid : linear.Valid (fractions s.recession s.retention)
+  pub steps_valid : lag.Valid (steps s.steps)
+  pub linear_settings : of_linear.settings first ≡ fractions s.recession s.retention
   pub linear_cells : of_linear.cells first ≡ 0 ∷ []
-  pub lag_settings : of_lag.settings second ≡ steps n
-  pub lag_cells : of_lag.cells second ≡ replicate n 0
+  pub lag_settings : of_lag.settings second ≡ steps s.steps
+  pub lag_cells : of_lag.cells second ≡ replicate s.steps 0
 
--- a reservoir with these settings and cells that has taken and given nothing
-abbrev pub fresh : Settings → List ℕ → Gauge
+-- the gauge of a reservoir with these settings and cells that has taken and given nothing
+abbrev pub fresh : MakeSettings → List ℕ → Gauge
 fresh s c = record { settings = s; cells = c; taken = 0; given = 0 }
 
--- the three reservoirs of the settings a, b and n: the linear one, the lag, and such a linear one followed by such a lag
-pub record Prepares (a b n : ℕ) (made : SideBySide Linear Lag (Series Linear Lag)) : Type 0 where
-  pub fractions_valid : linear.Valid (fractions a b)
-  pub steps_valid : lag.Valid (steps n)
-  pub first : gauge of_linear.settings of_linear.cells made.first ≡ fresh (fractions a b) (0 ∷ [])
-  pub second : gauge of_lag.settings of_lag.cells made.second ≡ fresh (steps n) (replicate n 0)
+-- the three reservoirs of valid settings: the linear one, the lag, and such a linear one followed by such a lag
+pub record Prepares (s : Settings) (made : SideBySide Linear Lag (Series Linear Lag of_linear of_lag)) : Type 0 where
+  pub fractions_valid : linear.Valid (fractions s.recession s.retention)
+  pub steps_valid : lag.Valid (steps s.steps)
+  pub first : made.first.gauge ≡ fresh (fractions s.recession s.retention) (0 ∷ [])
+  pub second : made.second.gauge ≡ fresh (steps s.steps) (replicate s.steps 0)
   pub third :
-      gauge
-      (λ r. joined (of_linear.settings r.first) (of_lag.settings r.second))
-      (λ r. of_linear.cells r.first ++ of_lag.cells r.second)
-      made.third
-      ≡ fresh (joined (fractions a b) (steps n)) (0 ∷ replicate n 0)
+      made.third.gauge
+      ≡ fresh (joined (fractions s.recession s.retention) (steps s.steps)) (0 ∷ replicate s.steps 0)

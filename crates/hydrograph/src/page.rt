@@ -22,10 +22,7 @@ pub fn page_of(heap: Global, storm: &[u8]) -> Result<String, AllocError> {
             write_balance(&mut page, "lag", &reservoirs.second)?;
             write_balance(&mut page, "linear then lag", &reservoirs.third)?;
         }
-        Err(fault) => {
-            let line = first.number;
-            writeln!(page, "line {line} refused: {fault}")?;
-        }
+        Err(fault) => writeln!(page, "line {} refused: {fault}", first.number)?,
     }
     Ok(page)
 }
@@ -36,13 +33,11 @@ fn write_steps(
     reservoirs: &mut Reservoirs,
 ) -> Result<(), AllocError> {
     write_heading(page)?;
+    // no `for`: entries are read from a reader that is lent
     while let Some(line) = next_entry(reader) {
         match route(reservoirs, line.bytes) {
             Ok((volume, step)) => write_row(page, line.number, volume, &step)?,
-            Err(fault) => {
-                let number = line.number;
-                writeln!(page, "line {number} refused: {fault}")?;
-            }
+            Err(fault) => writeln!(page, "line {} refused: {fault}", line.number)?,
         }
     }
     Ok(())
@@ -67,12 +62,9 @@ fn write_row(
     volume: Centilitres,
     step: &Step,
 ) -> Result<(), AllocError> {
-    let taken = volume.0;
-    write!(page, "{line:>8}{taken:>16}")?;
+    write!(page, "{line:>8}{:>16}", volume.0)?;
     for passage in [step.first, step.second, step.third] {
-        let gives = passage.gives.0;
-        let holds = passage.holds.0;
-        write!(page, "{gives:>16}{holds:>16}")?;
+        write!(page, "{:>16}{:>16}", passage.gives.0, passage.holds.0)?;
     }
     writeln!(page)
 }
@@ -82,8 +74,11 @@ fn write_balance<R: Reservoir>(
     name: &str,
     gauged: &Gauged<R>,
 ) -> Result<(), AllocError> {
-    let taken = gauged.taken.0;
-    let given = gauged.given.0;
-    let held = gauged.reservoir.content().0;
-    writeln!(page, "{name}: taken {taken} = given {given} + held {held}")
+    writeln!(
+        page,
+        "{name}: taken {} = given {} + held {}",
+        gauged.taken.0,
+        gauged.given.0,
+        gauged.reservoir.content().0
+    )
 }

@@ -1,6 +1,9 @@
 // Why a line of a storm is refused, and how that is reported.
 
-use reservoir::fault::Fault;
+ghost use Rattle.hydrograph.specs.declared.refused.VolumeFault.TheVariants.{NoRoom};
+ghost use Rattle.std.specs.Prelude.{◌≡◌};
+
+use reservoir::fault::{Fault, Refusal};
 use routing::side_by_side::{NoRoom, Position};
 use std::fmt;
 
@@ -17,6 +20,14 @@ pub enum SettingsFault {
 pub enum VolumeFault {
     NotANumber,
     NoRoom(NoRoom),
+}
+
+impl From<NoRoom> for VolumeFault {
+    ghost from_gives = { λ no_room fault. fault ≡ NoRoom no_room };
+
+    fn from(no_room: NoRoom) -> VolumeFault {
+        VolumeFault::NoRoom(no_room)
+    }
 }
 
 impl fmt::Display for SettingsFault {
@@ -40,26 +51,28 @@ impl fmt::Display for VolumeFault {
         match self {
             VolumeFault::NotANumber => f.write_str("not a number"),
             VolumeFault::NoRoom(no_room) => {
-                let name = name_of(no_room.position);
                 write_numbers(f, no_room.fault)?;
                 write!(
                     f,
-                    "the {name} would hold more than 100000000000000 centilitres"
+                    "the {} would hold more than 100000000000000 centilitres",
+                    name_of(no_room.position)
                 )
             }
         }
     }
 }
 
-// The three numbers of a fault.
+// The three numbers of a fault, in the words of this program alone: no `Display` of the refusal itself.
 fn write_numbers<W: fmt::Write>(f: &mut fmt::Formatter<W>, fault: Fault) -> fmt::Result {
-    let told = fault.told();
-    let cause = told.cause;
-    let layer = told.layer;
-    let place = told.place;
-    write!(f, "cause {cause}, layer {layer}, place {place}: ")
+    let told = Refusal::from(fault);
+    write!(
+        f,
+        "cause {}, layer {}, place {}: ",
+        told.cause, told.layer, told.place
+    )
 }
 
+// In the words of this program alone: no `Display` of the position itself.
 fn name_of(position: Position) -> &'static str {
     match position {
         Position::First => "linear reservoir",

@@ -1,6 +1,7 @@
 -- The laws of whole runs, of every make that keeps a reservoir's meaning.
 use Rattle.std.proofs.Common.{◌≡◌, ℕ, zero, suc, ◌+◌, ◌≤◌, List, [], ◌∷◌, length, replicate, Ok, Err, Result, sym, ap, ◌∙◌, subst, arith}
-use lib.ListN.{length-replicate}
+use Rattle.std.proofs.lemmas.List.{length-replicate}
+use Rattle.std.proofs.lemmas.List.Sums.{sum_by-cons}
 use Rattle.quantity.specs.declared.water.Centilitres.{Centilitres}
 use Rattle.reservoir.specs.Answers.{Takes}
 use Rattle.reservoir.specs.Cells.{held, AtMost}
@@ -29,6 +30,8 @@ balance_over m mm s c [] f r = omega arith
 balance_over m mm s c (t ∷ ts) f r =
     let x = balance_after m mm s c t.after t.volume t.answer f r.0 in
     let y = balance_over m mm s t.after ts (fits_after m mm s c t.after t.volume t.answer f r.0) r.1 in
+    let v = sum_by-cons (λ (k : Taking). takes k.volume k.answer) t ts in
+    let w = sum_by-cons (λ (k : Taking). gives k.answer) t ts in
     omega arith
 
 pub runs_balance : (m : Make) → Meaning m → RunsBalance m
@@ -54,13 +57,10 @@ no_less_over m mm s c d [] x y o r = tt
 no_less_over m mm s c d (p ∷ ps) x y o r =
     let l = pair_after m mm s c d p.first.after p.second.after p.first.volume p.second.volume
     p.first.answer p.second.answer x y o r.0 r.1.0 r.1.1.0 r.1.1.1.0 in (
-      l.0,
-      (
-        l.1,
-        no_less_over m mm s p.first.after p.second.after ps
-            (fits_after m mm s c p.first.after p.first.volume p.first.answer x r.0)
-            (fits_after m mm s d p.second.after p.second.volume p.second.answer y r.1.0) l.1 r.1.1.1.1,
-      ),
+      l,
+      no_less_over m mm s p.first.after p.second.after ps
+          (fits_after m mm s c p.first.after p.first.volume p.first.answer x r.0)
+          (fits_after m mm s d p.second.after p.second.volume p.second.answer y r.1.0) l.1 r.1.1.1.1,
     )
 
 at_most_zeros : (n : ℕ) → AtMost (replicate n 0) (replicate n 0)

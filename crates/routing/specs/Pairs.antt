@@ -1,5 +1,6 @@
 -- Two reservoirs alike, run side by side: the one that is offered more gives no less.
 use Rattle.std.specs.Prelude.{ℕ, ◌≤◌, List, [], ◌∷◌, Ok, Err, Result}
+use Rattle.std.specs.List.{AllByRecursion}
 use Rattle.quantity.specs.declared.water.Centilitres.{Centilitres}
 use Rattle.reservoir.specs.Answers.{Takes}
 use Rattle.reservoir.specs.Cells.{AtMost}
@@ -32,9 +33,8 @@ PairRun make s c d (p ∷ ps) =
 
 -- in each pair the second gives at least as much, and then holds at least as much in each cell
 abbrev pub NoLess : List Pair → Type 0
-NoLess [] = Unit {0}
-NoLess (p ∷ ps) =
-    (gives p.first.answer ≤ gives p.second.answer) × (AtMost p.first.after p.second.after × NoLess ps)
+NoLess ps =
+    AllByRecursion (λ p. (gives p.first.answer ≤ gives p.second.answer) × AtMost p.first.after p.second.after) ps
 
 -- More gives no less, for every such list of pairs of two reservoirs that were empty.
 abbrev pub MoreGivesNoLess : Make → Type 0

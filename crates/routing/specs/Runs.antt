@@ -1,5 +1,5 @@
 -- Runs of a reservoir, and its water balance over them.
-use Rattle.std.specs.Prelude.{◌≡◌, ℕ, ◌+◌, List, [], ◌∷◌, replicate, Ok, Err, Result}
+use Rattle.std.specs.Prelude.{◌≡◌, ℕ, ◌+◌, List, [], ◌∷◌, replicate, sum_by, Ok, Err, Result}
 use Rattle.quantity.specs.declared.water.Centilitres.{Centilitres}
 use Rattle.reservoir.specs.Answers.{Takes}
 use Rattle.reservoir.specs.Cells.{held}
@@ -32,12 +32,10 @@ gives (Err fault) = 0
 
 -- everything taken and everything given in a run
 abbrev pub taken_in : List Taking → ℕ
-taken_in [] = 0
-taken_in (t ∷ ts) = takes t.volume t.answer + taken_in ts
+taken_in ts = sum_by (λ t. takes t.volume t.answer) ts
 
 abbrev pub given_in : List Taking → ℕ
-given_in [] = 0
-given_in (t ∷ ts) = gives t.answer + given_in ts
+given_in ts = sum_by (λ t. gives t.answer) ts
 
 -- the cells at the end of a run from cells c
 abbrev pub end_of : List ℕ → List Taking → List ℕ

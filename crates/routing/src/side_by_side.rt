@@ -1,8 +1,7 @@
 // Three reservoirs of any makes, offered the same volumes: all take a volume or none does.
 
 ghost use Rattle.reservoir.specs.Faults.{Full};
-ghost use Rattle.routing.specs.Gauges.{Passes, gauge};
-ghost use Rattle.routing.specs.SideBySide.{FirstFull};
+ghost use Rattle.routing.specs.SideBySide.{AllPass, FirstFull};
 ghost use Rattle.std.specs.Prelude.{◌≡◌, Ok, Err, MatchResult};
 
 use crate::gauged::{Gauged, Passage};
@@ -11,7 +10,7 @@ use reservoir::fault::Fault;
 use reservoir::interface::Reservoir;
 
 #[derive(Drop)]
-pub struct SideBySide<F, S, T> {
+pub struct SideBySide<F: Reservoir, S: Reservoir, T: Reservoir> {
     pub first: Gauged<F>,
     pub second: Gauged<S>,
     pub third: Gauged<T>,
@@ -43,13 +42,8 @@ impl<F: Reservoir, S: Reservoir, T: Reservoir> SideBySide<F, S, T> {
     // Offers a volume to each in turn; where all have room, each takes it, else none does.
     pub fn step(&mut self, volume: Centilitres) -> Result<Step, NoRoom>
         ensures { MatchResult result
-            (λ step.
-            Passes F.Reservoir.make (gauge F.Reservoir.settings F.Reservoir.cells self.old.first) volume.0 step.first (gauge F.Reservoir.settings F.Reservoir.cells self.new.first)
-            × (Passes S.Reservoir.make (gauge S.Reservoir.settings S.Reservoir.cells self.old.second) volume.0 step.second (gauge S.Reservoir.settings S.Reservoir.cells self.new.second)
-            × Passes T.Reservoir.make (gauge T.Reservoir.settings T.Reservoir.cells self.old.third) volume.0 step.third (gauge T.Reservoir.settings T.Reservoir.cells self.new.third)))
-            (λ refused. Full refused.fault
-            × (FirstFull refused.position (F.Reservoir.cells self.old.first.reservoir) (S.Reservoir.cells self.old.second.reservoir) (T.Reservoir.cells self.old.third.reservoir) volume.0
-            × (self.new ≡ self.old))) }
+            (λ step. AllPass F.Reservoir.make S.Reservoir.make T.Reservoir.make self.old volume.0 step self.new)
+            (λ refused. Full refused.fault × (FirstFull refused.position self.old volume.0 × (self.new ≡ self.old))) }
     {
         at(self.first.reservoir.offer(volume), Position::First)?;
         at(self.second.reservoir.offer(volume), Position::Second)?;
@@ -65,12 +59,9 @@ impl<F: Reservoir, S: Reservoir, T: Reservoir> SideBySide<F, S, T> {
     }
 }
 
-// Puts on a fault the position at which it was met.
+// Puts on a fault the position at which it was met. The six places have their own such function, which says why.
 fn at<X>(res: Result<X, Fault>, position: Position) -> Result<X, NoRoom>
     ensures { MatchResult res (λ x. result ≡ Ok x) (λ fault. result ≡ Err (record { position = position; fault = fault })) }
 {
-    match res {
-        Ok(x) => Ok(x),
-        Err(fault) => Err(NoRoom { position, fault }),
-    }
+    res.map_err(|fault| NoRoom { position, fault })
 }

@@ -9,6 +9,7 @@ use quantity::water::Centilitres;
 #[derive(Clone, Copy, PartialEq, Eq, Debug)]
 pub struct Total(pub u128);
 
+// As Centilitres, which differ from it in width alone: std has no trait for both widths.
 impl Account for Total {
     type Amount = Centilitres;
 
@@ -23,6 +24,6 @@ impl Account for Total {
     }
 
     fn plus(self, amount: Centilitres) -> Self {
-        Total(self.0.saturating_add(amount.0 as u128))
+        Total(self.0.saturating_add(u128::from(amount.0)))
     }
 }

@@ -1,8 +1,8 @@
-use Rattle.std.proofs.Common.{refl}
-use Rattle.hydrograph.specs.Prepared.{Prepares}
+use Rattle.std.proofs.Common.{rules}
 use Rattle.hydrograph.proofs.Made.{prepared}
 use Rattle.hydrograph.proofs.storm.reservoirs_of.Goals as goal
 
-pub returns-in-Some : goal.returns-in-Some
-returns-in-Some c =
-    prepared c.args.line.now c.in-Some.numbers Prepares c.side_by_side.result ((c.in-Some.ensures c.in-Some.numbers).0 refl) c.side_by_side.ensures
+pub returns : goal.returns
+returns c =
+    let numbers = c.in_ok-recession.field-0 in
+    prepared c.args.line.now numbers c.side_by_side.result ((c.naturals.ensures numbers).0 (search rules)) c.side_by_side.ensures
