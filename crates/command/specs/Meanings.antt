@@ -1,5 +1,5 @@
 -- What a line means.
-use Rattle.std.specs.Prelude.{◌≡◌, ℕ, ◌≤◌, ◌⊎◌, ◌↔◌, List, [], ◌∷◌, length, Some, None, Ok, Err, Option, Result}
+use Rattle.std.specs.Prelude.{◌≡◌, ℕ, ◌≤◌, ◌⊎◌, ◌↔◌, List, [], ◌∷◌, length, Some, None, Ok, Option, Result}
 use Rattle.command.specs.Letters.{mark}
 use Rattle.command.specs.Written.{Writable, written}
 use Rattle.command.specs.declared.command.Command.{Command}
@@ -8,11 +8,6 @@ use Rattle.command.specs.declared.command.Malformed.{Malformed}
 -- a command, none where a line is passed over, or a line that has no form
 abbrev pub Meaning : Type 0
 Meaning = Result (Option Command) Malformed
-
--- the meaning of a line that is no other than this command
-abbrev pub command_or_malformed : Option Command → Meaning
-command_or_malformed None = Err (record {})
-command_or_malformed (Some command) = Ok (Some command)
 
 abbrev pub longest_line : ℕ
 longest_line = 200

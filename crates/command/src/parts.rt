@@ -1,25 +1,30 @@
 // What stands behind the letter of a line, read as the letter's command. `None` where it is anything else.
 
-ghost use Rattle.std.specs.Prelude.{◌≡◌, ◌<◌};
 ghost use Rattle.command.specs.Letters.{letter_c, letter_g, letter_k, letter_o, letter_r, letter_s, letter_w};
-ghost use Rattle.command.specs.Parts.{Behind, concentrations_of, fractions_of};
+ghost use Rattle.command.specs.Parts.{Behind};
 ghost use Rattle.decimal.specs.Reading.{SomeExactly};
 ghost use Rattle.words.specs.Readings.{ahead};
 
-use crate::command::{Command, Fractions};
+use crate::command::{Command, Fractions, PLACES};
 use card::areas::Areas;
-use card::concentrations::{Concentrations, NUTRIENTS};
+use card::concentrations::{Concentrations, FLOWS, NUTRIENTS};
 use ground::forcing::Forcing;
 use ground::soil::Soil;
 use quantity::load::Concentration;
 use quantity::water::{Area, Depth};
+use std::array;
 use words::words::Words;
+
+// How many numbers the fractions of the places are, and the concentrations of the flows.
+const FRACTIONS: usize = 2 * PLACES;
+
+const CONCENTRATIONS: usize = FLOWS * NUTRIENTS;
 
 // `o`: the number of a node, and its areas.
 pub(crate) fn begin(mut words: Words<'_>) -> Option<Command>
     ensures { SomeExactly result (Behind letter_o (ahead words.entry)) }
 {
-    let [number, open, paved, sewer, unpaved] = words.naturals::<5>()?;
+    let [number, open, paved, sewer, unpaved] = words.numbers::<_, 5>()?;
     let areas = Areas {
         open: Area(open),
         paved: Area(paved),
@@ -42,7 +47,7 @@ pub(crate) fn ground(mut words: Words<'_>) -> Option<Command>
         depression_limit,
         crop_factor,
         slow_share,
-    ] = words.naturals::<8>()?;
+    ] = words.numbers::<_, 8>()?;
     Some(Command::Ground(Soil {
         wilting_point: Depth(wilting_point),
         field_capacity: Depth(field_capacity),
@@ -59,81 +64,49 @@ pub(crate) fn ground(mut words: Words<'_>) -> Option<Command>
 pub(crate) fn equip(mut words: Words<'_>) -> Option<Command>
     ensures { SomeExactly result (Behind letter_k (ahead words.entry)) }
 {
-    let numbers = words.naturals::<12>()?;
-    Some(Command::Equip([
-        fractions_of(&numbers, 0),
-        fractions_of(&numbers, 1),
-        fractions_of(&numbers, 2),
-        fractions_of(&numbers, 3),
-        fractions_of(&numbers, 4),
-        fractions_of(&numbers, 5),
-    ]))
-}
-
-// The fractions of a place.
-fn fractions_of(numbers: &[u32; 12], place: usize) -> Fractions
-    requires { place < 6 }
-    ensures { result ≡ fractions_of numbers.now place }
-{
-    Fractions {
-        recession: numbers[2 * place],
-        retention: numbers[2 * place + 1],
-    }
+    let numbers = words.numbers::<u32, FRACTIONS>()?;
+    let (pairs, _) = numbers.as_chunks::<2>();
+    let fractions = array::from_fn(|place| {
+        let [recession, retention] = pairs[place];
+        Fractions {
+            recession,
+            retention,
+        }
+    });
+    Some(Command::Equip(fractions))
 }
 
 // `c`: the concentrations of the seven flows.
 pub(crate) fn open(mut words: Words<'_>) -> Option<Command>
     ensures { SomeExactly result (Behind letter_c (ahead words.entry)) }
 {
-    let numbers = words.naturals::<21>()?;
-    let by_flow = [
-        concentrations_of(&numbers, 0),
-        concentrations_of(&numbers, 1),
-        concentrations_of(&numbers, 2),
-        concentrations_of(&numbers, 3),
-        concentrations_of(&numbers, 4),
-        concentrations_of(&numbers, 5),
-        concentrations_of(&numbers, 6),
-    ];
+    let concentrations = words.numbers::<u32, CONCENTRATIONS>()?.map(Concentration);
+    let (flows, _) = concentrations.as_chunks::<NUTRIENTS>();
+    let by_flow = flows.try_into().unwrap();
     Some(Command::Open(Concentrations { by_flow }))
-}
-
-// The concentrations of a flow.
-fn concentrations_of(numbers: &[u32; 21], flow: usize) -> [Concentration; NUTRIENTS]
-    requires { flow < 7 }
-    ensures { result ≡ concentrations_of numbers.now flow }
-{
-    [
-        Concentration(numbers[3 * flow]),
-        Concentration(numbers[3 * flow + 1]),
-        Concentration(numbers[3 * flow + 2]),
-    ]
 }
 
 // `s`: the number of a node, and its forcing.
 pub(crate) fn step(mut words: Words<'_>) -> Option<Command>
     ensures { SomeExactly result (Behind letter_s (ahead words.entry)) }
 {
-    let number = words.next_natural()?;
-    let rain = Depth(words.next_natural()?);
-    let evaporation = Depth(words.next_natural()?);
-    let seepage = words.next_signed()?;
-    if !words.is_done() {
-        return None;
-    }
+    let number = words.next_number()?;
+    let rain = Depth(words.next_number()?);
+    let evaporation = Depth(words.next_number()?);
+    let seepage = words.next_number()?;
     let forcing = Forcing {
         rain,
         evaporation,
         seepage,
     };
-    Some(Command::Step(number, forcing))
+    words.is_done().then_some(Command::Step(number, forcing))
 }
 
 // `w`: the number of a node.
 pub(crate) fn withdraw(mut words: Words<'_>) -> Option<Command>
     ensures { SomeExactly result (Behind letter_w (ahead words.entry)) }
 {
-    let [number] = words.naturals::<1>()?;
+    let [number] = words.numbers::<_, 1>()?;
     Some(Command::Withdraw(number))
 }
 
@@ -141,9 +114,5 @@ pub(crate) fn withdraw(mut words: Words<'_>) -> Option<Command>
 pub(crate) fn read_book(words: Words<'_>) -> Option<Command>
     ensures { SomeExactly result (Behind letter_r (ahead words.entry)) }
 {
-    if words.is_done() {
-        Some(Command::Read)
-    } else {
-        None
-    }
+    words.is_done().then_some(Command::Read)
 }

@@ -1,7 +1,6 @@
 // Reading a line as its command.
 
-ghost use Rattle.command.specs.Meanings.{Means, command_or_malformed};
-ghost use Rattle.std.specs.Prelude.{◌≡◌};
+ghost use Rattle.command.specs.Meanings.{Means};
 
 use crate::command::{Command, Malformed};
 use crate::kind::Kind;
@@ -17,26 +16,16 @@ pub fn read(line: Line<'_>) -> Result<Option<Command>, Malformed>
     if line.bytes.len() > LONGEST_LINE {
         return Err(Malformed {});
     }
-    match Kind::of(line) {
-        Kind::Empty => Ok(None),
-        Kind::Remark(_) => Ok(None),
-        Kind::Areas(words) => well_formed(begin(words)),
-        Kind::Soil(words) => well_formed(ground(words)),
-        Kind::Fractions(words) => well_formed(equip(words)),
-        Kind::Concentrations(words) => well_formed(open(words)),
-        Kind::Step(words) => well_formed(step(words)),
-        Kind::Withdrawal(words) => well_formed(withdraw(words)),
-        Kind::Reading(words) => well_formed(read_book(words)),
-        Kind::Other(_) => Err(Malformed {}),
-    }
-}
-
-// The command, or that the line has no form.
-fn well_formed(command: Option<Command>) -> Result<Option<Command>, Malformed>
-    ensures { result ≡ command_or_malformed command }
-{
-    match command {
-        None => Err(Malformed {}),
-        Some(command) => Ok(Some(command)),
-    }
+    let command = match Kind::of(line) {
+        Kind::Empty | Kind::Remark(_) => return Ok(None),
+        Kind::Areas(words) => begin(words),
+        Kind::Soil(words) => ground(words),
+        Kind::Fractions(words) => equip(words),
+        Kind::Concentrations(words) => open(words),
+        Kind::Step(words) => step(words),
+        Kind::Withdrawal(words) => withdraw(words),
+        Kind::Reading(words) => read_book(words),
+        Kind::Other(_) => None,
+    };
+    command.map(Some).ok_or(Malformed {})
 }

@@ -34,10 +34,8 @@ fn digits_value(word: &[u8]) -> Option<u64>
 {
     let mut number = 0;
     for byte in word {
-        if !byte.is_ascii_digit() {
-            return None;
-        }
-        number = number * 10 + u64::from(*byte - b'0');
+        let digit = char::from(*byte).to_digit(10)?;
+        number = number * 10 + u64::from(digit);
     }
     Some(number)
 }
@@ -49,12 +47,11 @@ pub fn split_word(line: &[u8]) -> (&[u8], Option<&[u8]>)
     ensures whole { line.now ≡ result.0.now ++ after_space result.1 }
     ensures no_rest { (result.1 ≡ None) ↔ LacksByte 32 line.now }
 {
-    for (i, byte) in line.iter().enumerate() {
-        if *byte == b' ' {
-            return (&line[0..i], Some(&line[i + 1..]));
-        }
+    // slices have no `split_once`
+    match line.iter().position(|byte| *byte == b' ') {
+        Some(end) => (&line[..end], Some(&line[end + 1..])),
+        None => (line, None),
     }
-    (line, None)
 }
 
 // The N numbers below 10^18 whose decimal forms, with one space between each two, are the line; `None` for any other line.
@@ -73,10 +70,7 @@ pub fn naturals<const N: usize>(line: &[u8]) -> Option<[u64; N]>
         *number = natural(word)?;
         rest = after;
     }
-    match rest {
-        None => Some(numbers),
-        Some(_) => None,
-    }
+    rest.is_none().then_some(numbers)
 }
 
 #[cfg(test)]

@@ -1,4 +1,4 @@
--- The lines that a run of calls of `next_line` hands out.
+-- The lines that a run of calls of `next` hands out.
 use Rattle.std.proofs.Common.{◌≡◌, ℕ, ◌+◌, List, [], ◌∷◌, ◌++◌, drop, sym, ap, ◌∙◌}
 use Rattle.std.proofs.lemmas.List.{append-nil}
 use Rattle.lines.specs.Lines.{lines_of}

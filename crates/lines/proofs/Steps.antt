@@ -1,11 +1,17 @@
 -- The step from one line of a text to the next. It rests on `Lines`.
-use Rattle.std.proofs.Common.{◌≡◌, ℕ, ◌+◌, ◌-◌, ◌<◌, ◌≤◌, min, List, [], ◌∷◌, ◌++◌, length, take, drop, sym, ap, ◌∙◌, ⊎_elim, arith, rules, eq-eqb, ne_eqb}
+use Rattle.std.proofs.Common.{◌≡◌, ℕ, ◌+◌, ◌-◌, ◌<◌, ◌≤◌, min, List, [], ◌∷◌, ◌++◌, length, take, drop, sym, ap, ◌∙◌, ⊎_elim, arith, rules, eq-eqb, ne_eqb, ◌≢◌, slice_index}
 use native.Mathlib.Nat.{add-sub_cancel_left}
 use Rattle.std.specs.Str.Iter.{LacksByte}
 use Rattle.std.proofs.lemmas.List.{drop_all, drop-drop, length-drop, places, take_all, take-append-drop, take_more, take_rest}
 use Rattle.std.proofs.lemmas.Bool.{cases_eq, cases_lt}
-use Rattle.lines.specs.Lines.{extended, lines_of, LineLength}
+use Rattle.lines.specs.Lines.{extended, lines_of}
 use Rattle.lines.proofs.Lines.{lines_front, lines_one}
+
+-- The first byte 10 stands after n bytes; where there is none, n is the number of bytes.
+pub record LineLength (bytes : List ℕ) (n : ℕ) : Type 0 where
+  pub within : n ≤ length bytes
+  pub lacks : (k : ℕ) → k < n → slice_index bytes k ≢ 10
+  pub ends : n < length bytes → slice_index bytes n ≡ 10
 
 length_extended : (b : ℕ) (ls : List (List ℕ)) → length (extended b ls) ≤ length ls + 1
 length_extended b [] = omega arith

@@ -1,7 +1,7 @@
 -- The lines of a text of bytes. The byte 10 ends a line; after the last line it may be missing.
 -- The standard library has `flat_map f xs`, which is f of each element of xs, one after another; `AllByRecursion P xs`, that P
 -- holds of each element; and `LacksByte 10 l`, that the byte 10 is not in l.
-use Rattle.std.specs.Prelude.{◌≡◌, ℕ, ◌<◌, ◌≤◌, cond, ◌⊎◌, ◌↔◌, List, [], ◌∷◌, ◌++◌, length, ◌==◌, ◌≢◌, slice_index}
+use Rattle.std.specs.Prelude.{◌≡◌, ℕ, ◌<◌, cond, ◌⊎◌, ◌↔◌, List, [], ◌∷◌, ◌++◌, length, ◌==◌}
 use Rattle.std.specs.Str.Iter.{LacksByte}
 use Rattle.std.specs.List.{flat_map, AllByRecursion}
 
@@ -34,9 +34,3 @@ LaidOut text ls = AllByRecursion (LacksByte 10) ls × ((text ≡ ended ls) ⊎ U
 -- The lines of a text are exactly those that are laid out as the text.
 abbrev pub LinesAreLaidOut : Type 0
 LinesAreLaidOut = (text : List ℕ) (ls : List (List ℕ)) → (lines_of text ≡ ls) ↔ LaidOut text ls
-
--- The first byte 10 stands after n bytes; where there is none, n is the number of bytes.
-pub record LineLength (bytes : List ℕ) (n : ℕ) : Type 0 where
-  pub within : n ≤ length bytes
-  pub lacks : (k : ℕ) → k < n → slice_index bytes k ≢ 10
-  pub ends : n < length bytes → slice_index bytes n ≡ 10

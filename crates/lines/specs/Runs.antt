@@ -1,4 +1,4 @@
--- What a reader has ahead, what a call of `next_line` answers, and which lines a run of calls hands out.
+-- What a reader has ahead, what a call of `next` answers, and which lines a run of calls hands out.
 use Rattle.std.specs.Prelude.{◌≡◌, ℕ, ◌+◌, List, [], ◌∷◌, ◌++◌, map, drop, Some, None, Option}
 use Rattle.lines.specs.Lines.{lines_of}
 use Rattle.lines.specs.declared.reader.Line.{Line}
@@ -8,7 +8,7 @@ use Rattle.lines.specs.declared.reader.Reader.{Reader}
 abbrev pub ahead : Reader → List (List ℕ)
 ahead reader = drop reader.count (lines_of reader.text.now)
 
--- What `next_line` answers, and the reader that it leaves: `None` where nothing is ahead, and then nothing changes;
+-- What `next` answers, and the reader that it leaves: `None` where nothing is ahead, and then nothing changes;
 -- else the first line ahead with its number, and the others are still ahead.
 abbrev pub NextLine : Reader → Option Line → Reader → Type 0
 NextLine before None after = (ahead before ≡ []) × (after ≡ before)
@@ -18,7 +18,7 @@ NextLine before (Some line) after =
     × (after.count ≡ before.count + 1)
     × (after.text ≡ before.text)
 
--- calls of `next_line` lead from the one reader to the other, and hand out these lines in this order
+-- calls of `next` lead from the one reader to the other, and hand out these lines in this order
 abbrev pub Run : Reader → List Line → Reader → Type 0
 Run before [] after = after ≡ before
 Run before (line ∷ lines) after = (next : Reader) × NextLine before (Some line) next × Run next lines after
@@ -37,7 +37,7 @@ abbrev pub HandsOutInOrder : Reader → List ℕ → Type 0
 HandsOutInOrder reader text = (lines : List Line) (after : Reader) → Run reader lines after →
     contents lines ++ numbered (after.count + 1) (ahead after) ≡ numbered 1 (lines_of text)
 
--- In every run from the reader until `next_line` answers `None`, the lines handed out are the lines of the text and nothing else,
+-- In every run from the reader until `next` answers `None`, the lines handed out are the lines of the text and nothing else,
 -- numbered 1, 2, 3 and so on.
 abbrev pub HandsOutAll : Reader → List ℕ → Type 0
 HandsOutAll reader text = (lines : List Line) (after end : Reader) → Run reader lines after → NextLine after None end →

@@ -10,7 +10,8 @@ pub struct Line<'a> {
     pub bytes: &'a [u8],
 }
 
-// A text, the position up to which it is read, and the number of lines handed out.
+// A text, the position up to which it is read, and the number of lines handed out: a position and no rest, by a rule of the
+// project.
 #[derive(Drop)]
 pub struct Reader<'a> {
     pub(crate) text: &'a [u8],

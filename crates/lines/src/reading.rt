@@ -1,8 +1,9 @@
 // Reading a text line by line. Relies on the reader, and on the definitions of lines and of what a reader has ahead.
 
-ghost use Rattle.lines.specs.Lines.{LinesAreLaidOut, LineLength, lines_of};
+ghost use Rattle.lines.specs.Lines.{LinesAreLaidOut, lines_of};
 ghost use Rattle.lines.specs.Runs.{HandsOutAll, HandsOutInOrder, NextLine, ahead};
-ghost use Rattle.std.specs.Prelude.{◌≡◌};
+ghost use Rattle.std.specs.Iterator.{at_most};
+ghost use Rattle.std.specs.Prelude.{◌≡◌, length};
 
 use crate::reader::{Line, Reader};
 
@@ -23,16 +24,31 @@ impl<'a> Reader<'a> {
         }
     }
 
-    // The next line of the text; `None` where no line is left.
-    pub fn next_line(&mut self) -> Option<Line<'a>>
-        ensures { NextLine self.old result self.new }
+    // The number of lines handed out so far.
+    pub fn lines_read(&self) -> usize
+        ensures { result ≡ self.now.count }
     {
+        self.count
+    }
+}
+
+impl<'a> Iterator for Reader<'a> {
+    type Item = Line<'a>;
+
+    ghost next_gives = { NextLine };
+
+    ghost remaining = { λ reader. at_most (length (ahead reader)) };
+
+    // The next line of the text; `None` where no line is left.
+    fn next(&mut self) -> Option<Line<'a>> {
         let text = self.text;
         let start = self.position;
         if start == text.len() {
             return None;
         }
-        let end = start + line_length(&text[start..]);
+        let ahead = &text[start..];
+        let line_break = ahead.iter().position(|byte| *byte == b'\n');
+        let end = start + line_break.unwrap_or(ahead.len());
         let position = if end < text.len() { end + 1 } else { end };
         let number = self.count + 1;
         *self = Reader {
@@ -45,25 +61,6 @@ impl<'a> Reader<'a> {
             bytes: &text[start..end],
         })
     }
-
-    // The number of lines handed out so far.
-    pub fn count(&self) -> usize
-        ensures { result ≡ self.now.count }
-    {
-        self.count
-    }
-}
-
-// The number of bytes before the first byte 10, or of all bytes where there is none.
-fn line_length(bytes: &[u8]) -> usize
-    ensures { LineLength bytes.now result }
-{
-    for (i, byte) in bytes.iter().enumerate() {
-        if *byte == b'\n' {
-            return i;
-        }
-    }
-    bytes.len()
 }
 
 #[cfg(test)]
@@ -74,8 +71,8 @@ mod tests {
     #[test]
     fn the_last_line_may_lack_its_line_break(rt: HostRuntime) -> Result<(), Fail> {
         let mut reader = Reader::new(b"\nlast");
-        assert!(rt; reader.next_line().is_some());
-        let line = reader.next_line().ok_or("no second line")?;
+        assert!(rt; reader.next().is_some());
+        let line = reader.next().ok_or("no second line")?;
         assert_eq!(rt; line.number, 2);
         assert!(rt; line.bytes == b"last".as_slice());
         Ok(())
@@ -84,8 +81,8 @@ mod tests {
     #[test]
     fn a_final_line_break_begins_no_line(rt: HostRuntime) {
         let mut reader = Reader::new(b"one\n");
-        assert!(rt; reader.next_line().is_some());
-        assert!(rt; reader.next_line().is_none());
-        assert_eq!(rt; reader.count(), 1);
+        assert!(rt; reader.next().is_some());
+        assert!(rt; reader.next().is_none());
+        assert_eq!(rt; reader.lines_read(), 1);
     }
 }

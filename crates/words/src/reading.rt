@@ -1,11 +1,11 @@
 // Reading the words of a line. Relies on the numbers of words.
 
 ghost use Rattle.decimal.specs.Reading.{SomeExactly};
-ghost use Rattle.words.specs.Numbers.{WritesNatural, WritesNaturals, WritesSigned};
-ghost use Rattle.words.specs.Readings.{NextNumber, NextWord, TakesApart, WordLength, ahead};
+ghost use Rattle.words.specs.Numbers.{Writes, WritesAll};
+ghost use Rattle.words.specs.Readings.{NextNumber, NextWord, TakesApart, ahead};
 ghost use Rattle.std.specs.Prelude.{◌≡◌, length, ◌==◌};
 
-use crate::number::{natural, signed};
+use crate::number::Numeral;
 use crate::words::{Word, Words};
 use lines::reader::Line;
 
@@ -27,12 +27,12 @@ impl<'a> Words<'a> {
         let line = self.line;
         match self.rest {
             [b' ', more @ ..] => {
-                let (bytes, rest) = more.split_at(word_length(more));
-                self.rest = rest;
-                // the bytes behind the space are an end of the line, so the column loses nothing
+                let space = more.iter().position(|byte| *byte == b' ');
+                let (bytes, rest) = more.split_at(space.unwrap_or(more.len()));
+                *self = Words { line, rest };
                 Some(Word {
                     line: line.number,
-                    column: line.bytes.len().saturating_sub(more.len()),
+                    column: line.bytes.len() - more.len(),
                     bytes,
                 })
             }
@@ -41,17 +41,10 @@ impl<'a> Words<'a> {
     }
 
     // The next word as a number.
-    pub fn next_natural(&mut self) -> Option<u32>
-        ensures { NextNumber WritesNatural (ahead self.old) result (ahead self.new) }
+    pub fn next_number<T: Numeral>(&mut self) -> Option<T>
+        ensures { NextNumber (Writes T.form T.size) (ahead self.old) result (ahead self.new) }
     {
-        natural(self.next_word()?.bytes)
-    }
-
-    // The next word as a number that may be below 0.
-    pub fn next_signed(&mut self) -> Option<i32>
-        ensures { NextNumber WritesSigned (ahead self.old) result (ahead self.new) }
-    {
-        signed(self.next_word()?.bytes)
+        T::of_word(self.next_word()?.bytes)
     }
 
     // Whether all bytes are read.
@@ -62,25 +55,13 @@ impl<'a> Words<'a> {
     }
 
     // The N numbers that are all that is ahead, each after one space; `None` where anything else is.
-    pub fn naturals<const N: usize>(&mut self) -> Option<[u32; N]>
-        ensures { SomeExactly result (WritesNaturals N (ahead self.old)) }
+    pub fn numbers<T: Numeral + Copy + Default, const N: usize>(&mut self) -> Option<[T; N]>
+        ensures { SomeExactly result (WritesAll T.form T.size N (ahead self.old)) }
     {
-        let mut numbers = [0; N];
+        let mut numbers = [T::default(); N];
         for number in &mut numbers {
-            *number = self.next_natural()?;
+            *number = self.next_number()?;
         }
-        if self.is_done() { Some(numbers) } else { None }
+        self.is_done().then_some(numbers)
     }
-}
-
-// The number of bytes before the first space, or of all bytes where there is none.
-fn word_length(bytes: &[u8]) -> usize
-    ensures { WordLength bytes.now result }
-{
-    for (i, byte) in bytes.iter().enumerate() {
-        if *byte == b' ' {
-            return i;
-        }
-    }
-    bytes.len()
 }
