@@ -28,11 +28,16 @@ in_range_true f e =
     let p = and_parts _ _ e in
     let q = and_parts _ _ p.1 in
     let r = and_parts _ _ q.1 in
-    (leb-true _ _ p.0, leb-true _ _ q.0, record { le = true_T _ r.0 }, record { le = true_T _ r.1 })
+    record {
+      rain = leb-true _ _ p.0;
+      evaporation = leb-true _ _ q.0;
+      sinking = record { le = true_T _ r.0 };
+      rising = record { le = true_T _ r.1 };
+    }
 
 pub range_in_true : (f : Forcing) → InRange f → in_range f ≡ true
 range_in_true f h =
-    and_from _ _ (le-leb _ _ h.0) (and_from _ _ (le-leb _ _ h.1) (and_from _ _ (T_true _ h.2.le) (T_true _ h.3.le)))
+    and_from _ _ (le-leb _ _ h.rain) (and_from _ _ (le-leb _ _ h.evaporation) (and_from _ _ (T_true _ h.sinking.le) (T_true _ h.rising.le)))
 
 pub room_for_all : (place : ℕ) (ss : List State) (vs : List ℕ) → asked_for_room place ss vs ≡ would_step → EachAccepts ss vs
 room_for_all place [] [] e = tt

@@ -5,7 +5,7 @@ use Rattle.card.specs.Limits.{all_areas, hard_areas}
 use Rattle.card.specs.Loads.{loads_of}
 use Rattle.card.specs.declared.card.Card.{Card}
 use Rattle.card.proofs.Laws.{loads_grow}
-use Rattle.ground.specs.Laws.{Wetter, Closes, SlowShareLaws}
+use Rattle.ground.specs.Laws.{Wetter}
 use Rattle.ground.specs.Laws as ground_laws
 use Rattle.ground.specs.Limits.{Admissible}
 use Rattle.ground.specs.Rules.{Soaked, soaked, slow_part, quick_part}
@@ -91,7 +91,7 @@ onward : (makes : List Make) → Meanings makes → (c : Card) (f g : Forcing) (
     EachAccepts ss (inflows c f (soaked c.soil m d f)) → EachAccepts ts (inflows c g (soaked c.soil n e g)) →
     Onward makes c f g m n d e ss ts
 onward makes mm c f g m n d e ss ts s t h w x y =
-    let k = ground_steps.more_gives_no_less c.soil s.soil m n d e f g h.moisture t.within.0 h.depression w in
+    let k = ground_steps.more_gives_no_less c.soil s.soil m n d e f g h.moisture t.within.in_soil h.depression w in
     let i = inflows_more c f g (soaked c.soil m d f) (soaked c.soil n e g) s.soil w k in
     let p = together.more makes mm ss ts (inflows c f (soaked c.soil m d f)) (inflows c g (soaked c.soil n e g)) s.fits t.fits x y h.reservoirs i in
     record {
@@ -147,7 +147,11 @@ each_emptied_fits (m ∷ ms) [] f = elim f [ ]
 each_emptied_fits (m ∷ ms) (s ∷ ss) f = ((f.0.0, length-replicate (length s.cells) 0 ∙ f.0.1), each_emptied_fits ms ss f.1)
 
 pub opened_sound : (makes : List Make) (c : Card) (ss : List State) → Admissible c.soil → EachFits makes ss → Sound makes (opened c ss)
-opened_sound makes c ss s f = record { soil = s; within = (omega arith, omega arith); fits = each_emptied_fits makes ss f }
+opened_sound makes c ss s f = record {
+  soil = s;
+  within = record { in_soil = omega arith; in_storage = omega arith };
+  fits = each_emptied_fits makes ss f;
+}
 
 pub stays_sound : (makes : List Make) → Meanings makes → StaysSound makes
 stays_sound makes mm = record {

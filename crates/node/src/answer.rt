@@ -47,16 +47,8 @@ impl Flows {
     pub fn listed(&self) -> [Centilitres; FLOWS]
         ensures { volumes result ≡ flows_in self.now }
     {
-        let given = self.reservoirs;
-        [
-            given.open,
-            given.paved,
-            given.sewer,
-            given.surface,
-            given.quick,
-            given.slow,
-            self.rising,
-        ]
+        let [open, paved, sewer, surface, quick, slow] = self.reservoirs.listed();
+        [open, paved, sewer, surface, quick, slow, self.rising]
     }
 
     // All seven together; a sum too large for a volume is the largest volume.

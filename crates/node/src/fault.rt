@@ -23,17 +23,17 @@ impl From<PlacedFault> for StepFault {
     }
 }
 
-impl StepFault {
-    pub fn told(self) -> Refusal
-        ensures { result ≡ step_refusal self }
-    {
-        match self {
+impl From<StepFault> for Refusal {
+    ghost from_gives = { λ fault told. told ≡ step_refusal fault };
+
+    fn from(fault: StepFault) -> Refusal {
+        match fault {
             StepFault::OutOfRange => Refusal {
                 cause: 12,
                 layer: 3,
                 place: 0,
             },
-            StepFault::Reservoir(fault) => fault.told(),
+            StepFault::Reservoir(fault) => fault.into(),
         }
     }
 }

@@ -11,5 +11,6 @@ pub fn hard_surface_evaporation(forcing: &CheckedForcing) -> Depth
     ensures { result.0 ≡ hard_evaporation forcing.now.numbers }
 {
     let numbers = forcing.numbers();
-    Depth(numbers.rain.0.min(125 * numbers.evaporation.0 / 100))
+    let demand = Depth(125 * numbers.evaporation.0 / 100);
+    numbers.rain.min(demand)
 }

@@ -1,13 +1,11 @@
 // What a step under a forcing would do to a node, before any reservoir is asked.
 
-ghost use Rattle.ground.specs.Answers.{amounts};
-ghost use Rattle.node.specs.Answers.{Plans, store};
+ghost use Rattle.node.specs.Answers.{Plans};
 
 use crate::hard::hard_surface_evaporation;
 use crate::node::Node;
 use ground::forcing::CheckedForcing;
 use ground::ground::Ground;
-use ground::step::Soaking;
 use places::interface::Places;
 use places::volumes::Volumes;
 use quantity::water::{Centilitres, Depth};
@@ -25,11 +23,12 @@ pub struct Plan {
 
 impl<P: Places> Node<P> {
     pub(crate) fn plan(&self, forcing: &CheckedForcing) -> Plan
-        ensures { Plans (store P.Places.reservoirs self.now) forcing.now.numbers result }
+        ensures { Plans self.now forcing.now.numbers result }
     {
         let areas = self.areas.numbers();
         let soaking = self.ground.after(forcing);
         let evaporation = hard_surface_evaporation(forcing);
+        // on the insides: an operator would have to ask for a bound, and by a rule of the project no public call does
         let runoff = Depth(forcing.numbers().rain.0 - evaporation.0);
         let percolated = soaking.percolation * areas.unpaved;
         let slow = self.ground.soil().slow_part(percolated);

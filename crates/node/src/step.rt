@@ -2,9 +2,10 @@
 
 ghost use Rattle.std.specs.Prelude.{◌≡◌, ◌-◌, ◌^◌, min, MatchResult};
 ghost use Rattle.card.specs.Checking.{numbers_of};
+ghost use Rattle.card.specs.Limits.{AreasWithin, ConcentrationsWithin};
 ghost use Rattle.ground.specs.Limits.{InRange};
-ghost use Rattle.node.specs.Answers.{Brings, Offers, Shows, Steps, store};
-ghost use Rattle.node.specs.Laws.{MoreRainGivesNoLess, StaysSound, StepsBalance};
+ghost use Rattle.node.specs.Answers.{Brings, Offers, Shows, Steps};
+ghost use Rattle.node.specs.Laws.{MoreRainGivesNoLess, Sound, StaysSound, StepsBalance};
 ghost use Rattle.node.specs.Stores.{opened, storage};
 ghost use Rattle.node.specs.declared.fault.StepFault.TheVariants.{OutOfRange};
 
@@ -21,7 +22,7 @@ use quantity::water::{Centilitres, Depth};
 impl<P: Places> Node<P> {
     // Opens a node on a card, which is spent, over six reservoirs, which are emptied. Of its makes the laws of nodes hold.
     pub fn open(card: CheckedCard, mut reservoirs: P) -> Self
-        ensures opened { store P.Places.reservoirs result ≡ opened (numbers_of card) (P.Places.reservoirs reservoirs) }
+        ensures opened { result ≡ opened (numbers_of card) (P.Places.reservoirs reservoirs) }
         ensures stays_sound { StaysSound P.Places.makes }
         ensures steps_balance { StepsBalance P.Places.makes }
         ensures more_rain_gives_no_less { MoreRainGivesNoLess P.Places.makes }
@@ -38,7 +39,7 @@ impl<P: Places> Node<P> {
 
     // Whether a step under a forcing would be accepted. Nothing is changed.
     pub fn offer(&self, forcing: Forcing) -> Result<(), StepFault>
-        ensures { Offers (store P.Places.reservoirs self.now) forcing result }
+        ensures { Offers self.now forcing result }
     {
         let checked = in_range(forcing)?;
         self.reservoirs.offer(&self.plan(&checked).inflows)?;
@@ -47,7 +48,7 @@ impl<P: Places> Node<P> {
 
     // One step under a forcing: all of it happens or nothing.
     pub fn step(&mut self, forcing: Forcing) -> Result<Yield, StepFault>
-        ensures { Steps P.Places.makes (store P.Places.reservoirs self.old) forcing result (store P.Places.reservoirs self.new) }
+        ensures { Steps P.Places.makes self.old forcing result self.new }
     {
         let checked = in_range(forcing)?;
         let plan = self.plan(&checked);
@@ -67,18 +68,21 @@ impl<P: Places> Node<P> {
 
     // What comes in under a forcing, over all areas.
     pub fn income(&self, forcing: Forcing) -> Income
-        ensures { Brings (store P.Places.reservoirs self.now) forcing result }
+        ensures { Brings self.now forcing result }
     {
         let area = self.areas.total();
         Income {
             rain: forcing.rain * area,
-            rise: Depth(forcing.seepage.max(0) as u32) * area,
+            rise: forcing.rising_seepage() * area,
         }
     }
 
-    // Looks at a node. Nothing is changed.
+    // Looks at a node. Nothing is changed. The last two clauses hand on what the parts of a node carry in their types and the
+    // model does not show: every node is sound, and its card was checked.
     pub fn look(&self) -> View
-        ensures { Shows (store P.Places.reservoirs self.now) result }
+        ensures shows { Shows self.now result }
+        ensures sound { Sound P.Places.makes self.now }
+        ensures checked { AreasWithin self.now.card.areas × ConcentrationsWithin self.now.card.concentrations.by_flow }
     {
         View {
             moisture: self.ground.moisture(),
@@ -89,8 +93,9 @@ impl<P: Places> Node<P> {
 
     // What a node holds, asked of its reservoirs; a sum too large for a volume is the largest volume.
     pub fn storage(&self) -> Centilitres
-        ensures { result.0 ≡ min (storage (store P.Places.reservoirs self.now)) (2 ^ 64 - 1) }
+        ensures { result.0 ≡ min (storage self.now) (2 ^ 64 - 1) }
     {
+        // on the insides: an operator would have to ask for a bound, and by a rule of the project no public call does
         let ground = Depth(self.ground.moisture().0 + self.ground.depression().0);
         self.reservoirs
             .contents()
@@ -103,8 +108,5 @@ impl<P: Places> Node<P> {
 fn in_range(forcing: Forcing) -> Result<CheckedForcing, StepFault>
     ensures { MatchResult result (λ checked. InRange forcing × (checked.numbers ≡ forcing)) (λ fault. (InRange forcing → ⊥) × (fault ≡ OutOfRange)) }
 {
-    match forcing.check() {
-        Some(checked) => Ok(checked),
-        None => Err(StepFault::OutOfRange),
-    }
+    forcing.check().ok_or(StepFault::OutOfRange)
 }

@@ -1,5 +1,5 @@
 -- How the marks of a roll and its cells go together. Only the first 64 cells are used.
-use Rattle.std.specs.Prelude.{◌≡◌, ℕ, ◌<◌, Bool, true, false, List, take, is_some, None, count_by, Option, slice_index_or}
+use Rattle.std.specs.Prelude.{◌≡◌, ℕ, ◌<◌, Bool, true, false, List, length, take, is_some, None, count_by, Option, slice_index_or}
 use Rattle.roll.specs.declared.mark.Mark.{Mark}
 use Rattle.roll.specs.declared.mark.Mark.TheVariants.{New, Open, Withdrawn}
 
@@ -23,3 +23,12 @@ Alone marks = (k j : ℕ) → ((i : ℕ) × ((slice_index_or marks k New ≡ Ope
 -- as many numbers are open as the first 64 cells have nodes
 abbrev pub Counted : {N : Type 0} → List Mark → List (Option N) → Type 0
 Counted marks cells = count_by marks_open marks ≡ count_by is_some (take 64 cells)
+
+-- The facts that every roll keeps: so a number's cell is found by its mark alone, and a cell has a node only if a number is
+-- open in it.
+pub record Linked {N : Type 0} (marks : List Mark) (cells : List (Option N)) : Type 0 where
+  pub numbers : length marks ≡ 256
+  pub usable : Usable marks
+  pub used : Used marks cells
+  pub alone : Alone marks
+  pub counted : Counted marks cells

@@ -29,18 +29,18 @@ impl From<StepFault> for DistrictFault {
     }
 }
 
-impl DistrictFault {
-    pub fn told(self) -> Refusal
-        ensures { result ≡ district_refusal self }
-    {
-        let cause = match self {
+impl From<DistrictFault> for Refusal {
+    ghost from_gives = { λ fault told. told ≡ district_refusal fault };
+
+    fn from(fault: DistrictFault) -> Refusal {
+        let cause = match fault {
             DistrictFault::NumberOutside => 6,
             DistrictFault::NumberOpen => 7,
             DistrictFault::NumberWithdrawn => 8,
             DistrictFault::NoUnusedCell => 9,
             DistrictFault::IncomeTooLarge => 10,
             DistrictFault::NumberNew => 11,
-            DistrictFault::Step(fault) => return fault.told(),
+            DistrictFault::Step(fault) => return fault.into(),
         };
         Refusal {
             cause,

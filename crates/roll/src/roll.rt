@@ -1,10 +1,9 @@
 // The roll of a district: the mark of each number, and the node cells that its caller made.
 
-ghost use Rattle.roll.specs.Links.{Alone, Counted, Usable, Used};
-ghost use Rattle.std.specs.Prelude.{◌≡◌, length};
-
 use crate::mark::Mark;
 use node::node::Node;
+use places::interface::Places;
+use std::marker::Model;
 
 // The numbers are 1 to 256; the mark of a number stands one place lower.
 pub(crate) const NUMBERS: usize = 256;
@@ -12,15 +11,25 @@ pub(crate) const NUMBERS: usize = 256;
 // Only the first cells are used where there are more.
 pub(crate) const MOST_CELLS: usize = 64;
 
-// The ghost facts say how marks and cells go together: so a number's cell is found by its mark alone, and a cell has a
-// node only if a number is open in it.
+// Marks in an array and nodes in their caller's cells, by a rule of the project: a district allocates nothing.
 #[derive(Drop)]
-pub struct Roll<P> {
+pub struct Roll<P: Places> {
     pub(crate) marks: [Mark; NUMBERS],
     pub(crate) cells: Vec<Option<Node<P>>>,
-    ghost numbers: { length marks ≡ 256 },
-    ghost usable: { Usable marks },
-    ghost used: { Used marks cells.items },
-    ghost alone: { Alone marks },
-    ghost counted: { Counted marks cells.items },
+}
+
+// Clauses see the standing of each number, and how many cells there are.
+impl<P: Places> Model for Roll<P> {
+    ghost use Rattle.std.specs.Coded.{codes};
+    ghost use Rattle.reservoir.specs.Coding.{coded_settings};
+    ghost use Rattle.roll.specs.Links.{Linked};
+    ghost use Rattle.roll.specs.Rolls.{Rolled, rolled};
+
+    ghost Value = { Rolled };
+
+    ghost coded = { Prim.hlevel (codes, coded_settings) };
+
+    ghost view = { λ r. rolled r.marks r.cells.items };
+
+    ghost invariant = { λ r. Linked r.marks r.cells.items };
 }

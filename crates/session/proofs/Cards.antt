@@ -15,19 +15,26 @@ false_without : {P : Type 0} (b : Bool) → (b ≡ true → P) → (P → ⊥) �
 false_without b holds not' = ⊎_elim (λ (t : b ≡ true). elim (not' (holds t)) [ ]) (λ (t : b ≡ false). t) (cases_Bool b)
 
 areas_from : (a : CardAreas) → AreasWithin a → areas_fit a ≡ true
-areas_from a h = and_from _ _ (le-leb _ _ h.1) (lt-ltb _ _ h.2)
+areas_from a h = and_from _ _ (le-leb _ _ h.together) (lt-ltb _ _ h.some)
 
 areas_to : (a : CardAreas) → areas_fit a ≡ true → AreasWithin a
 areas_to a t =
     let p = and_parts _ _ t in
     let all = leb-true _ _ p.0 in
-    ((omega arith, omega arith, omega arith, omega arith), all, ltb-true _ _ p.1)
+    record {
+      «open» = omega arith;
+      paved = omega arith;
+      sewer = omega arith;
+      unpaved = omega arith;
+      together = all;
+      some = ltb-true _ _ p.1;
+    }
 
 soil_from : (s : CardSoil) → Admissible s → soil_fits s ≡ true
 soil_from s h =
-    and_from _ _ (le-leb _ _ h.0.0) (and_from _ _ (lt-ltb _ _ h.0.1) (and_from _ _ (le-leb _ _ h.0.2)
-    (and_from _ _ (le-leb _ _ h.1.0) (and_from _ _ (le-leb _ _ h.1.1) (and_from _ _ (le-leb _ _ h.1.2)
-    (and_from _ _ (le-leb _ _ h.2.0) (le-leb _ _ h.2.1)))))))
+    and_from _ _ (le-leb _ _ h.wilting_point) (and_from _ _ (lt-ltb _ _ h.field_capacity) (and_from _ _ (le-leb _ _ h.saturation)
+    (and_from _ _ (le-leb _ _ h.infiltration_limit) (and_from _ _ (le-leb _ _ h.depression_limit) (and_from _ _ (le-leb _ _ h.percolation_limit)
+    (and_from _ _ (le-leb _ _ h.crop_factor) (le-leb _ _ h.slow_share)))))))
 
 soil_to : (s : CardSoil) → soil_fits s ≡ true → Admissible s
 soil_to s t =
@@ -37,11 +44,17 @@ soil_to s t =
     let p3 = and_parts _ _ p2.1 in
     let p4 = and_parts _ _ p3.1 in
     let p5 = and_parts _ _ p4.1 in
-    let p6 = and_parts _ _ p5.1 in (
-      (leb-true _ _ p0.0, ltb-true _ _ p1.0, leb-true _ _ p2.0),
-      (leb-true _ _ p3.0, leb-true _ _ p4.0, leb-true _ _ p5.0),
-      (leb-true _ _ p6.0, leb-true _ _ p6.1),
-    )
+    let p6 = and_parts _ _ p5.1 in
+    record {
+      wilting_point = leb-true _ _ p0.0;
+      field_capacity = ltb-true _ _ p1.0;
+      saturation = leb-true _ _ p2.0;
+      infiltration_limit = leb-true _ _ p3.0;
+      depression_limit = leb-true _ _ p4.0;
+      percolation_limit = leb-true _ _ p5.0;
+      crop_factor = leb-true _ _ p6.0;
+      slow_share = leb-true _ _ p6.1;
+    }
 
 flow_from : (cs : List Concentration) → FlowWithin cs → flow_fits cs ≡ true
 flow_from [] h = refl

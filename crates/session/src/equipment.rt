@@ -1,4 +1,5 @@
-// How a program puts its nodes together: which six reservoirs it makes from a sheet's fractions. Runs of sheets are generic over it.
+// How a program puts its nodes together: which six reservoirs it makes from a sheet's fractions. Runs of sheets are generic over
+// it.
 
 ghost use Rattle.session.specs.Equipments.{Equipping, equipped_with};
 ghost use Rattle.std.specs.Prelude.{◌≡◌};

@@ -52,16 +52,16 @@ impl From<DistrictFault> for SheetFault {
     }
 }
 
-impl SheetFault {
-    pub fn told(self) -> Refusal
-        ensures { result ≡ sheet_refusal self }
-    {
-        let cause = match self {
+impl From<SheetFault> for Refusal {
+    ghost from_gives = { λ fault told. told ≡ sheet_refusal fault };
+
+    fn from(fault: SheetFault) -> Refusal {
+        let cause = match fault {
             SheetFault::NoForm => 13,
             SheetFault::OutOfTurn => 14,
-            SheetFault::OfCard(fault) => return fault.told(),
-            SheetFault::OfReservoir(fault) => return fault.told(),
-            SheetFault::OfDistrict(fault) => return fault.told(),
+            SheetFault::OfCard(fault) => return fault.into(),
+            SheetFault::OfReservoir(fault) => return fault.into(),
+            SheetFault::OfDistrict(fault) => return fault.into(),
         };
         Refusal {
             cause,

@@ -1,32 +1,32 @@
-use Rattle.std.proofs.Common.{◌≡◌, vec_len, sym, ap, ◌∙◌, subst}
-use Rattle.book.specs.Books.{book_of}
-use Rattle.model.specs.Soundness.{Sound}
-use Rattle.model.specs.State.{District, new_district}
 use Rattle.model.proofs.Cells.{no_cell_left_unused}
 use Rattle.model.proofs.Computed.{worked_calls}
-use Rattle.model.proofs.Kept.{starts}
 use Rattle.model.proofs.Offered.{verdict_offered}
 use Rattle.model.proofs.Tallies.{book_closes}
 use Rattle.model.proofs.Tracks.{more_rain_through_districts}
 use Rattle.model.proofs.Unchanged.{changes_nothing, withdrawn_stays}
 use Rattle.model.proofs.Within.{totals_stay_within}
-use Rattle.roll.specs.Rolls.{Rolled, rolled}
-use Rattle.district.specs.Answers.{district_with}
 use Rattle.district.proofs.district.District.new.Goals as goal
 
-pub returns : goal.returns
-returns g c =
-    let e : district_with (rolled g.P.Places.reservoirs c.new.result) (book_of c.empty.result) ≡ new_district (vec_len c.args.cells) =
-    ap (λ (l : Rolled). district_with l (book_of c.empty.result)) c.new.ensures ∙ ap (district_with _) c.empty.ensures in
-    record {
-      starts = e;
-      sound = subst (λ (d : District). Sound g.P.Places.makes d) (sym e) (starts g.P.Places.makes (vec_len c.args.cells));
-      book_closes = book_closes g.P.Places.makes g.met.P.Places.meanings;
-      more_rain_gives_no_less = more_rain_through_districts g.P.Places.makes g.met.P.Places.meanings;
-      no_cell_left_unused = no_cell_left_unused g.P.Places.makes g.met.P.Places.meanings;
-      withdrawn_stays = withdrawn_stays g.P.Places.makes;
-      changes_nothing = changes_nothing g.P.Places.makes;
-      totals_stay_within = totals_stay_within g.P.Places.makes g.met.P.Places.meanings;
-      verdict_is_offer = verdict_offered;
-      worked_calls = worked_calls;
-    }
+pub returns-clause-book_closes : goal.returns-clause-book_closes
+returns-clause-book_closes g c = book_closes g.P.Places.makes g.met.P.Places.meanings
+
+pub returns-clause-more_rain_gives_no_less : goal.returns-clause-more_rain_gives_no_less
+returns-clause-more_rain_gives_no_less g c = more_rain_through_districts g.P.Places.makes g.met.P.Places.meanings
+
+pub returns-clause-no_cell_left_unused : goal.returns-clause-no_cell_left_unused
+returns-clause-no_cell_left_unused g c = no_cell_left_unused g.P.Places.makes g.met.P.Places.meanings
+
+pub returns-clause-withdrawn_stays : goal.returns-clause-withdrawn_stays
+returns-clause-withdrawn_stays g c = withdrawn_stays g.P.Places.makes
+
+pub returns-clause-changes_nothing : goal.returns-clause-changes_nothing
+returns-clause-changes_nothing g c = changes_nothing g.P.Places.makes
+
+pub returns-clause-totals_stay_within : goal.returns-clause-totals_stay_within
+returns-clause-totals_stay_within g c = totals_stay_within g.P.Places.makes g.met.P.Places.meanings
+
+pub returns-clause-verdict_is_offer : goal.returns-clause-verdict_is_offer
+returns-clause-verdict_is_offer g c = verdict_offered
+
+pub returns-clause-worked_calls : goal.returns-clause-worked_calls
+returns-clause-worked_calls g c = worked_calls

@@ -9,14 +9,14 @@ overflow_sub-result g c =
 -- no more evaporates than the rain, and no more transpires than the rain and what the ground holds
 pub overflow_add-result : goal.overflow_add-result
 overflow_add-result g c =
-    let s = c.args.self.now.ground in
+    let s = c.self.inside.ground in
     let f = c.args.forcing.now in
     let e : c.hard_surface_evaporation-evaporation.result.0 ≤ 100000 = omega arith in
-    let h : c.hard.result.0 ≤ 100000000 = omega (arith, c.args.self.now.areas.within.1) in
+    let h : c.hard.result.0 ≤ 100000000 = omega (arith, c.self.inside.areas.within.together) in
     let b = (c.after-soaking.ensures.balance s.soil.numbers s.soil.admissible s.moisture.0 s.depression.0 f.numbers).ground in
     let v = ap (λ r. r.transpiration) c.after-soaking.ensures.value in
-    let t : c.after-soaking.result.transpiration.0 ≤ 400000 = omega (arith, s.soil.admissible.0.2, s.soil.admissible.1.1, s.within, f.in_range.0) in
-    let u : c.numbers-areas.result.unpaved.0 ≤ 100000000 = omega (arith, c.numbers-areas.ensures.within.1) in
+    let t : c.after-soaking.result.transpiration.0 ≤ 400000 = omega (arith, s.soil.admissible.saturation, s.soil.admissible.depression_limit, s.within, f.in_range.rain) in
+    let u : c.numbers-areas.result.unpaved.0 ≤ 100000000 = omega (arith, c.numbers-areas.ensures.within.together) in
     let x : c.hard_surface_evaporation-evaporation.result.0 * c.hard.result.0 ≤ 100000 * 100000000 = mul-le-mul e h in
     let y : c.after-soaking.result.transpiration.0 * c.numbers-areas.result.unpaved.0 ≤ 400000 * 100000000 = mul-le-mul t u in
     omega (arith, c.mul-6.ensures, c.mul-7.ensures)

@@ -1,20 +1,20 @@
-use Rattle.std.proofs.Common.{◌<◌, ◌≢◌, length, is_some, None, vec_items, ap, ◌∙◌, arith, below_more}
+use Rattle.std.proofs.Common.{◌≡◌, ◌<◌, ◌≢◌, length, is_some, None, ap, ◌∙◌, arith, below_more}
 use Rattle.std.proofs.lemmas.List.{get_or-set_same, get_or-set_other}
-use Rattle.roll.proofs.Entries.{linked_new}
+use Rattle.roll.proofs.Entries.{linked_new, written_whole}
 use Rattle.roll.proofs.roll.Roll.new.Goals as goal
 
 pub invariant_of-result : goal.invariant_of-result
 invariant_of-result g c =
-    linked_new (vec_items c.loop-cell.cells)
-    (λ k l. let h : k < c.loop-cell.cell = omega (arith, c.loop-cell.cells.ok.0) in c.loop-cell.invariant.1 k h)
+    let items = c.loop-cell.cell-items in
+    let long : length items ≡ c.args.cells.len = omega (arith, c.loop-cell.auto.cell-items, c.deref_mut-cell-items.ensures.len) in
+    let linked = linked_new items (λ k l. let h : k < c.loop-cell.cell-index = omega (arith, c.loop-cell.auto.cell-items) in c.loop-cell.invariant k h) in
+    rw (written_whole items c.args.cells.items c.args.cells.len long (omega (arith, c.args.cells.ok.0))) linked
 
 pub loop-cell-preserved : goal.loop-cell-preserved
 loop-cell-preserved g c =
-    let items = vec_items c.loop-cell.cells in
-    let i = c.loop-cell.cell in
-    let l : i < length items = omega (arith, c.loop-cell.cells.ok.0) in (
-      c.loop-cell.invariant.0,
-      below_more _ _
-          (λ k h. let ne : k ≢ i = omega arith in ap is_some (get_or-set_other items i k None None ne) ∙ c.loop-cell.invariant.1 k h)
-          (ap is_some (get_or-set_same items i None None l)),
-    )
+    let items = c.loop-cell.cell-items in
+    let i = c.loop-cell.cell-index in
+    let l : i < length items = omega (arith, c.loop-cell.auto.cell-items) in
+    below_more _ _
+    (λ k h. let ne : k ≢ i = omega arith in ap is_some (get_or-set_other items i k None None ne) ∙ c.loop-cell.invariant k h)
+    (ap is_some (get_or-set_same items i None None l))

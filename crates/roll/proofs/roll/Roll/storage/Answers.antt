@@ -1,27 +1,23 @@
-use Rattle.std.proofs.Common.{◌<◌, ◌≤◌, length, vec_items, ap, arith}
-use lib.ListN.{length-map}
-use Rattle.std.proofs.lemmas.List.{get_or-map, take_all}
-use Rattle.std.proofs.lemmas.List.Sums.{sum_by_more}
-use Rattle.model.specs.State.{outside, stored, all_stored}
-use Rattle.roll.specs.Rolls.{standing_of, standings}
-use Rattle.roll.specs.declared.mark.Mark.TheVariants.{New}
+use Rattle.std.proofs.Common.{◌≡◌, ℕ, ◌-◌, ◌^◌, min, List, sum_by, Option, ap, ◌∙◌, arith, rules}
+use Rattle.std.proofs.lemmas.Fn.{fold_over, slice_gives, fronts}
+use Rattle.std.proofs.lemmas.List.Sums.{sum_by_push}
+use Rattle.model.specs.State.{stored}
+use Rattle.node.specs.Stores.{Store}
+use Rattle.quantity.specs.declared.water.Centilitres.{Centilitres}
+use Rattle.roll.specs.Rolls.{standing_of}
+use Rattle.roll.specs.declared.mark.Mark.{Mark}
+use Rattle.roll.proofs.Standings.{stored_by_marks, kept_by}
 use Rattle.roll.proofs.roll.Roll.storage.Goals as goal
-
-pub loop-mark-preserved : goal.loop-mark-preserved
-loop-mark-preserved g c =
-    let r = c.args.self.now in
-    let i = c.loop-mark.mark-index in
-    let by = standing_of g.P.Places.reservoirs (vec_items r.cells) in
-    let all = standings g.P.Places.reservoirs (vec_items r.cells) r.marks in
-    let l : i < length r.marks = omega (arith, r.numbers) in
-    let m : i < length all = simp length-map l in
-    let s = sum_by_more stored all i outside m in
-    let d = ap stored (get_or-map by r.marks i New outside l) in
-    omega (arith, c.stored_under.ensures, c.plus-sum.ensures)
 
 pub returns : goal.returns
 returns g c =
-    let r = c.args.self.now in
-    let all = standings g.P.Places.reservoirs (vec_items r.cells) r.marks in
-    let l : length all ≤ c.loop-mark.mark-index = simp length-map (omega (arith, r.numbers)) in
-    omega (arith, c.loop-mark.invariant, ap all_stored (take_all c.loop-mark.mark-index all l))
+    let r = c.self.inside in
+    let under : List (Option Store) → Mark → ℕ = λ cells m. stored (standing_of cells m) in
+    let cells = c.as_slice-cells.result.now in
+    let J : List Mark → Centilitres → Type 0 = λ ms s. s.0 ≡ min (sum_by (under cells) ms) (2 ^ 64 - 1) in
+    let sum : J c.iter.result.rest.now c.fold.result =
+    fold_over fronts (λ y. y.now) _ J _ (λ ys a x b f' j k. let more = sum_by_push (under cells) ys x.now in search rules)
+    _ _ _ _ (slice_gives c.iter.result) (omega (arith, c.zero.ensures)) c.fold.ensures.ran in
+    let all = ap (λ x. sum_by (under x) c.iter.result.rest.now) c.as_slice-cells.ensures.value ∙ ap (sum_by (under r.cells.items)) c.iter.ensures.rest
+    ∙ stored_by_marks r.cells.items r.marks in
+    rw (← c.self.view_is) (record { sum = sum ∙ ap (λ n. min n (2 ^ 64 - 1)) all; kept = kept_by r.marks r.cells.items c.self.invariant })

@@ -1,27 +1,18 @@
-use Rattle.std.proofs.Common.{refl}
-use Rattle.model.specs.State.{new, open_with, withdrawn}
-use Rattle.roll.specs.Rolls.{rolled}
-use Rattle.roll.specs.declared.mark.Mark.TheVariants.{New, Withdrawn}
-use Rattle.roll.proofs.Standings.{stands_by, is_open_in, stands_open, marked_as, not_vacant_at, ok_or_cases}
+use Rattle.std.proofs.Common.{List, Option, subst}
+use Rattle.std.proofs.lemmas.Result.{err_from_is_err_and}
+use Rattle.model.specs.State.{standing}
+use Rattle.node.specs.Stores.{Store}
+use Rattle.roll.specs.Rolls.{Openable, NotVacant, rolled}
 use Rattle.roll.proofs.roll.Roll.vacancy.Goals as goal
 
-pub returns-in-New : goal.returns-in-New
-returns-in-New g c =
-    let r = c.args.self.now in
-    let m = c.in_ok-mark.ensures in
-    let s = stands_by g.P.Places.reservoirs r c.args.number _ New m c.in-New.is in
-    ok_or_cases _ _ _ _ _ _ _ c.ok_or.ensures.value c.unused_cell.ensures
-    (λ i q. (record { marked = marked_as r.marks c.args.number _ New m c.in-New.is; usable = q.0; within = q.1; unused = q.2 }, (s, q.3)))
-    (λ q. not_vacant_at (rolled g.P.Places.reservoirs c.args.self.now) _ new _ s (refl, q))
+pub returns-in_err-vacant_cell : goal.returns-in_err-vacant_cell
+returns-in_err-vacant_cell g c =
+    let p = err_from_is_err_and c.from_residual.result c.from_residual.ensures.1 in
+    let marks = c.self.inside.marks in
+    let Q : List (Option Store) → Type 0 = λ cells. NotVacant (rolled marks cells) (standing (rolled marks cells).roll c.args.number) c.in_err-vacant_cell.field-0.0 in
+    rw (p.1, p.2, ← c.self.view_is) (subst Q c.deref.ensures.value c.in_err-vacant_cell.ensures)
 
-pub returns-in-Open : goal.returns-in-Open
-returns-in-Open g c =
-    let r = c.args.self.now in
-    let o = is_open_in g.P.Places.reservoirs r c.args.number _ c.in-Open.field-0 c.in_ok-mark.ensures c.in-Open.is in
-    let s = stands_open g.P.Places.reservoirs r c.args.number c.in-Open.field-0 o in
-    not_vacant_at (rolled g.P.Places.reservoirs c.args.self.now) _ (open_with s.0) _ s.1 refl
-
-pub returns-in-Withdrawn : goal.returns-in-Withdrawn
-returns-in-Withdrawn g c =
-    not_vacant_at (rolled g.P.Places.reservoirs c.args.self.now) _ withdrawn _
-    (stands_by g.P.Places.reservoirs c.args.self.now c.args.number _ Withdrawn c.in_ok-mark.ensures c.in-Withdrawn.is) refl
+pub returns : goal.returns
+returns g c =
+    let Q : List (Option Store) → Type 0 = λ cells. Openable (rolled c.self.inside.marks cells) c.args.number in
+    rw (← c.self.view_is) (subst Q c.deref.ensures.value c.in_ok-vacant_cell.ensures.1)
