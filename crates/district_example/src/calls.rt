@@ -5,7 +5,8 @@ use crate::nodes::Site;
 #[derive(Clone, Copy)]
 pub enum Call {
     Open(u32, Site),
-    // number, rain, evaporation and seepage in points
+    // Number, rain, evaporation and seepage in points. Plain numbers: a literal of a forcing for each step would be no
+    // plainer.
     Step(u32, u32, u32, i32),
     Withdraw(u32),
     Look(u32),

@@ -10,7 +10,6 @@ use crate::calls::CALLS;
 use crate::nodes::Example;
 use crate::told::tell;
 use district::district::District;
-use node::node::Node;
 use places::reservoirs::Reservoirs;
 
 const CELLS: usize = 4;
@@ -20,11 +19,8 @@ fn main(rt: HostRuntime) -> anyhow::Result<()> {
 }
 
 fn run(rt: &HostRuntime) -> anyhow::Result<()> {
-    let mut cells: Vec<Option<Node<Reservoirs<Example>>>> = Vec::new(rt.alloc());
-    for _ in 0..CELLS {
-        cells.push(None)?;
-    }
-    let mut district = District::new(cells);
+    let cells = (0..CELLS).map(|_| None).collect(rt.alloc())?;
+    let mut district = District::<Reservoirs<Example>>::new(cells);
     for call in CALLS {
         tell(rt, &mut district, call)?;
     }

@@ -13,7 +13,8 @@ use reservoir::lag::Lag;
 use reservoir::linear::Linear;
 use reservoir::series::Series;
 
-// Linear reservoirs; the sewer followed by a lag, and two in series in the slow place.
+// Linear reservoirs; the sewer followed by a lag, and two in series in the slow place. As in the program `ram`, but chosen apart:
+// the example stands without sheets.
 pub struct Example {}
 
 impl Makes for Example {

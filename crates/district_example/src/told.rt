@@ -10,6 +10,7 @@ use node::answer::{View, Yield};
 use places::reservoirs::Reservoirs;
 use quantity::mass::Mass;
 use quantity::water::{Centilitres, Depth};
+use reservoir::fault::Refusal;
 use roll::fault::DistrictFault;
 use std::io;
 
@@ -40,17 +41,15 @@ fn tell_opening(
     number: u32,
     site: Site,
 ) -> anyhow::Result<()> {
-    let Ok(reservoirs) = site.reservoirs() else {
-        return Err(anyhow!("reservoirs are refused"));
-    };
-    let Ok(card) = site.card().check() else {
-        return Err(anyhow!("a card is refused"));
-    };
+    let reservoirs = site
+        .reservoirs()
+        .map_err(|_fault| anyhow!("reservoirs are refused"))?;
+    let card = site
+        .card()
+        .check()
+        .map_err(|_fault| anyhow!("a card is refused"))?;
     match district.open(number, card, reservoirs) {
-        Ok(volume) => {
-            let brought_in = volume.0;
-            println!(rt; "open {number} brought in {brought_in}")?;
-        }
+        Ok(volume) => println!(rt; "open {number} brought in {}", volume.0)?,
         Err(fault) => write_refusal(rt, "open", number, fault)?,
     }
     Ok(())
@@ -66,20 +65,20 @@ fn write_step(
         Ok(answer) => answer,
         Err(fault) => return write_refusal(rt, "step", number, fault),
     };
-    let p = forcing.rain.0;
-    let e = forcing.evaporation.0;
-    let k = forcing.seepage;
-    print!(rt; "step {number} {p} {e} {k}: flows")?;
+    let (rain, evaporation) = (forcing.rain.0, forcing.evaporation.0);
+    print!(rt;
+        "step {number} {rain} {evaporation} {}: flows",
+        forcing.seepage
+    )?;
     for flow in answer.flows.listed() {
-        let volume = flow.0;
-        print!(rt; " {volume}")?;
+        print!(rt; " {}", flow.0)?;
     }
-    let evaporated = answer.evaporated.0;
-    let sunk = answer.sunk.0;
-    print!(rt; " evaporated {evaporated} sunk {sunk} loads")?;
+    print!(rt;
+        " evaporated {} sunk {} loads",
+        answer.evaporated.0, answer.sunk.0
+    )?;
     for load in answer.loads {
-        let tenths = load.0;
-        print!(rt; " {tenths}")?;
+        print!(rt; " {}", load.0)?;
     }
     println!(rt; "")
 }
@@ -90,10 +89,7 @@ fn write_withdrawal(
     answer: Result<Centilitres, DistrictFault>,
 ) -> io::Result<()> {
     match answer {
-        Ok(volume) => {
-            let ceded = volume.0;
-            println!(rt; "withdraw {number} ceded {ceded}")
-        }
+        Ok(volume) => println!(rt; "withdraw {number} ceded {}", volume.0),
         Err(fault) => write_refusal(rt, "withdraw", number, fault),
     }
 }
@@ -103,59 +99,60 @@ fn write_look(rt: &impl Print, number: u32, answer: Result<View, DistrictFault>)
         Ok(view) => view,
         Err(fault) => return write_refusal(rt, "look", number, fault),
     };
-    let moisture = view.moisture.0;
-    let depression = view.depression.0;
-    print!(rt; "look {number} {moisture} {depression}")?;
-    let held = view.contents;
-    for content in [
-        held.open,
-        held.paved,
-        held.sewer,
-        held.surface,
-        held.quick,
-        held.slow,
-    ] {
-        let volume = content.0;
-        print!(rt; " {volume}")?;
+    print!(rt; "look {number} {} {}", view.moisture.0, view.depression.0)?;
+    for content in view.contents.listed() {
+        print!(rt; " {}", content.0)?;
     }
     println!(rt; "")
 }
 
 fn write_reading(rt: &impl Print, reading: &Reading) -> io::Result<()> {
     let book = reading.book;
-    let (rain, rise, brought_in) = (book.rain.0, book.rise.0, book.brought_in.0);
-    let (evaporated, discharged) = (book.evaporated.0, book.discharged.0);
-    let (sunk, ceded, storage) = (book.sunk.0, book.ceded.0, reading.storage.0);
-    print!(rt; "read rain {rain} rise {rise} brought in {brought_in} evaporated {evaporated}")?;
-    print!(rt; " discharged {discharged} sunk {sunk} ceded {ceded} storage {storage}")?;
+    print!(rt; "read rain {} rise {}", book.rain.0, book.rise.0)?;
+    print!(rt;
+        " brought in {} evaporated {}",
+        book.brought_in.0, book.evaporated.0
+    )?;
+    print!(rt; " discharged {} sunk {}", book.discharged.0, book.sunk.0)?;
+    print!(rt; " ceded {} storage {}", book.ceded.0, reading.storage.0)?;
     write_grams(rt, &book.loads)?;
-    print!(rt; "closes {rain} + {rise} + {brought_in}")?;
-    println!(rt; " = {evaporated} + {discharged} + {sunk} + {ceded} + {storage}")
+    print!(rt;
+        "closes {} + {} + {}",
+        book.rain.0, book.rise.0, book.brought_in.0
+    )?;
+    print!(rt; " = {} + {}", book.evaporated.0, book.discharged.0)?;
+    println!(rt;
+        " + {} + {} + {}",
+        book.sunk.0, book.ceded.0, reading.storage.0
+    )
 }
 
 fn write_grams(rt: &impl Print, loads: &[Mass; NUTRIENTS]) -> io::Result<()> {
     print!(rt; " grams")?;
     for mass in loads {
-        let grams = mass.grams;
-        print!(rt; " {grams}")?;
+        print!(rt; " {}", mass.grams)?;
     }
     println!(rt; "")
 }
 
 fn write_balance(rt: &impl Print, reading: &Reading) -> io::Result<()> {
     let book = reading.book;
-    let (rain, rise, brought_in) = (book.rain.0, book.rise.0, book.brought_in.0);
-    let (evaporated, discharged) = (book.evaporated.0, book.discharged.0);
-    let (sunk, ceded, storage) = (book.sunk.0, book.ceded.0, reading.storage.0);
-    print!(rt; "balance rain {rain} + rise {rise} + brought in {brought_in}")?;
-    print!(rt; " = evaporated {evaporated} + discharged {discharged}")?;
-    println!(rt; " + sunk {sunk} + ceded {ceded} + storage {storage}")
+    print!(rt; "balance rain {} + rise {}", book.rain.0, book.rise.0)?;
+    print!(rt;
+        " + brought in {} = evaporated {}",
+        book.brought_in.0, book.evaporated.0
+    )?;
+    print!(rt;
+        " + discharged {} + sunk {}",
+        book.discharged.0, book.sunk.0
+    )?;
+    println!(rt; " + ceded {} + storage {}", book.ceded.0, reading.storage.0)
 }
 
 fn write_refusal(rt: &impl Print, call: &str, number: u32, fault: DistrictFault) -> io::Result<()> {
-    let told = fault.told();
-    let cause = told.cause;
-    let layer = told.layer;
-    let place = told.place;
-    println!(rt; "refused {call} {number} cause {cause} layer {layer} place {place}")
+    let told = Refusal::from(fault);
+    println!(rt;
+        "refused {call} {number} cause {} layer {} place {}",
+        told.cause, told.layer, told.place
+    )
 }

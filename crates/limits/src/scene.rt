@@ -6,7 +6,6 @@ use card::concentrations::Concentrations;
 use card::fault::CardFault;
 use district::district::District;
 use ground::soil::Soil;
-use node::node::Node;
 use places::makes::Makes;
 use places::reservoirs::Reservoirs;
 use quantity::load::Concentration;
@@ -36,10 +35,7 @@ pub type Six = Reservoirs<Plain>;
 
 // A new district of some cells.
 pub(crate) fn district(heap: Global, count: usize) -> Result<District<Six>, AllocError> {
-    let mut cells: Vec<Option<Node<Six>>> = Vec::new(heap);
-    for _ in 0..count {
-        cells.push(None)?;
-    }
+    let cells = (0..count).map(|_| None).collect(heap)?;
     Ok(District::new(cells))
 }
 

@@ -1,4 +1,2 @@
-pub mod Digits
-pub mod Grams
-pub mod Lines
+pub mod Triples
 pub mod Running

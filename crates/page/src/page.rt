@@ -22,17 +22,18 @@ pub fn page<E: Equipment>(
 ) -> Result<Vec<u8>, AllocError>
     ensures { IfOk result (λ page. PageOf E.Nodes.Places.makes E.Equipment.equipped (vec_len cells) sheet.now page.items) }
 {
-    let mut page = Vec::new(heap);
+    let mut page = String::new(heap);
     if sheet.len() > LARGEST_SHEET {
         print_answer(&mut page, 0, Err(SheetFault::NoForm))?;
-        return Ok(page);
+        return Ok(page.into_bytes());
     }
     let mut session: Session<E::Nodes> = Session::new(cells);
-    let mut reader = Reader::new(sheet);
-    while let Some(line) = reader.next_line() {
+    let mut last = 0;
+    for line in Reader::new(sheet) {
         let answer = session.run::<E>(read(line));
         print_answer(&mut page, line.number, answer)?;
+        last = line.number;
     }
-    print_answer(&mut page, reader.count() + 1, session.finish())?;
-    Ok(page)
+    print_answer(&mut page, last + 1, session.finish())?;
+    Ok(page.into_bytes())
 }

@@ -1,5 +1,5 @@
 use Rattle.std.proofs.Common.{ℕ, List, ◌∷◌, ap, ◌∙◌}
-use Rattle.page.proofs.Grams.{three}
+use Rattle.page.proofs.Triples.{three}
 use Rattle.page.proofs.answers.balance_numbers.Goals as goal
 
 pub returns : goal.returns
