@@ -20,14 +20,15 @@ impl<P: Places> Model for District<P> {
     ghost use Rattle.model.specs.Soundness.{Sound};
     ghost use Rattle.model.specs.State as model;
     ghost use Rattle.reservoir.specs.Coding.{coded_settings};
+    ghost use Rattle.roll.specs.Rolls.{rolled_in};
 
     ghost Value = { model.District };
 
     ghost coded = { Prim.hlevel (codes, coded_settings) };
 
-    ghost view = { λ d. district_with d.roll (book_of d.book) };
+    ghost view = { λ d. district_with (rolled_in d.roll) (book_of d.book) };
 
-    ghost invariant = { λ d. Sound P.Places.makes (district_with d.roll (book_of d.book)) };
+    ghost invariant = { λ d. Sound P.Places.makes (district_with (rolled_in d.roll) (book_of d.book)) };
 }
 
 // The book, and the storage of all open nodes.

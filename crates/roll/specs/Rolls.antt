@@ -27,6 +27,11 @@ standing_of cells Withdrawn = withdrawn
 abbrev pub standings : List (Option Store) → List Mark → List Standing
 standings cells marks = map (standing_of cells) marks
 
+-- what a roll keeps: the mark of each number, and the node in each cell
+pub record Contents : Type 0 where
+  pub marks : List Mark
+  pub cells : List (Option Store)
+
 -- the standing of each number, and how many cells there are
 pub record Rolled : Type 0 where
   pub roll : List Standing
@@ -34,6 +39,10 @@ pub record Rolled : Type 0 where
 
 abbrev pub rolled : List Mark → List (Option Store) → Rolled
 rolled marks cells = record { roll = standings cells marks; cells = length cells }
+
+-- what a roll of these contents says of its numbers
+abbrev pub rolled_in : Contents → Rolled
+rolled_in c = rolled c.marks c.cells
 
 -- what every roll keeps: all numbers stand in it, and each open one has a cell
 pub record Kept (l : Rolled) : Type 0 where

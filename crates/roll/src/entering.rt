@@ -1,6 +1,6 @@
 // Changing a roll: making it, entering a node under a number, stepping it and withdrawing it.
 
-ghost use Rattle.roll.specs.Rolls.{NotOpen, NotVacant, Openable, StepsAt, with_standing};
+ghost use Rattle.roll.specs.Rolls.{NotOpen, NotVacant, Openable, StepsAt, rolled_in, with_standing};
 ghost use Rattle.model.specs.State.{new, number_count, open_with, standing, withdrawn};
 ghost use Rattle.std.specs.Prelude.{◌≡◌, replicate, vec_len, MatchResult};
 
@@ -16,7 +16,7 @@ use places::interface::Places;
 impl<P: Places> Roll<P> {
     // A roll of new numbers. Whatever the cells had is let go.
     pub fn new(mut cells: Vec<Option<Node<P>>>) -> Self
-        ensures { result ≡ record { roll = replicate number_count new; cells = vec_len cells } }
+        ensures { rolled_in result ≡ record { roll = replicate number_count new; cells = vec_len cells } }
     {
         for cell in cells.iter_mut() {
             *cell = None;
@@ -30,8 +30,8 @@ impl<P: Places> Roll<P> {
     // Enters a node under a number, where it is new and a cell is left. A refused one changes nothing.
     pub fn admit(&mut self, number: u32, node: Node<P>) -> Result<(), DistrictFault>
         ensures { MatchResult result
-            (λ _. Openable self.old number × (self.new ≡ with_standing self.old number (open_with node)))
-            (λ fault. NotVacant self.old (standing self.old.roll number) fault × (self.new ≡ self.old)) }
+            (λ _. Openable (rolled_in self.old) number × (rolled_in self.new ≡ with_standing (rolled_in self.old) number (open_with node)))
+            (λ fault. NotVacant (rolled_in self.old) (standing (rolled_in self.old).roll number) fault × (self.new ≡ self.old)) }
     {
         let cell = vacant_cell(&self.marks, &self.cells, number)?;
         self.cells[cell] = Some(node);
@@ -41,7 +41,7 @@ impl<P: Places> Roll<P> {
 
     // One step of the node of an open number, in its cell.
     pub fn step(&mut self, number: u32, forcing: Forcing) -> Result<Yield, DistrictFault>
-        ensures { StepsAt P.Places.makes (standing self.old.roll number) self.old number forcing result self.new }
+        ensures { StepsAt P.Places.makes (standing (rolled_in self.old).roll number) (rolled_in self.old) number forcing result (rolled_in self.new) }
     {
         let cell = find(&self.marks, number)?;
         match &mut self.cells[cell] {
@@ -54,8 +54,8 @@ impl<P: Places> Roll<P> {
     // Takes the node of an open number out of its cell, and withdraws the number.
     pub fn withdraw(&mut self, number: u32) -> Result<Node<P>, DistrictFault>
         ensures { MatchResult result
-            (λ node. (standing self.old.roll number ≡ open_with node) × (self.new ≡ with_standing self.old number withdrawn))
-            (λ fault. NotOpen (standing self.old.roll number) fault × (self.new ≡ self.old)) }
+            (λ node. (standing (rolled_in self.old).roll number ≡ open_with node) × (rolled_in self.new ≡ with_standing (rolled_in self.old) number withdrawn))
+            (λ fault. NotOpen (standing (rolled_in self.old).roll number) fault × (self.new ≡ self.old)) }
     {
         let cell = find(&self.marks, number)?;
         match self.cells[cell].take() {

@@ -2,7 +2,7 @@
 
 ghost use Rattle.std.specs.Prelude.{◌≡◌, ◌-◌, ◌^◌, min, not, is_some, List, Option, take, position, MatchResult};
 ghost use Rattle.roll.specs.Links.{Linked};
-ghost use Rattle.roll.specs.Rolls.{Kept, Marked, NotMarked, NotOpen, NotVacant, Openable, Vacant, rolled, standing_of, standings};
+ghost use Rattle.roll.specs.Rolls.{Kept, Marked, NotMarked, NotOpen, NotVacant, Openable, Vacant, rolled, rolled_in, standing_of, standings};
 ghost use Rattle.roll.specs.declared.mark.Mark.TheVariants.{Open};
 ghost use Rattle.model.specs.State.{all_stored, open_with, standing, stored};
 ghost use Rattle.node.specs.Stores.{Store};
@@ -19,8 +19,8 @@ impl<P: Places> Roll<P> {
     // The node of an open number.
     pub fn node(&self, number: u32) -> Result<&Node<P>, DistrictFault>
         ensures { MatchResult result
-            (λ node. standing self.now.roll number ≡ open_with node.now)
-            (λ fault. NotOpen (standing self.now.roll number) fault) }
+            (λ node. standing (rolled_in self.now).roll number ≡ open_with node.now)
+            (λ fault. NotOpen (standing (rolled_in self.now).roll number) fault) }
     {
         let cell = find(&self.marks, number)?;
         match &self.cells[cell] {
@@ -30,20 +30,20 @@ impl<P: Places> Roll<P> {
         }
     }
 
-    // Whether a number can be opened: it is new, and a cell is left.
-    pub fn vacancy(&self, number: u32) -> Result<(), DistrictFault>
+    // The cell that a new number can be opened in.
+    pub fn vacancy(&self, number: u32) -> Result<usize, DistrictFault>
         ensures { MatchResult result
-            (λ _. Openable self.now number)
-            (λ fault. NotVacant self.now (standing self.now.roll number) fault) }
+            (λ cell. Vacant self.now.marks self.now.cells number cell × Openable (rolled_in self.now) number)
+            (λ fault. NotVacant (rolled_in self.now) (standing (rolled_in self.now).roll number) fault) }
     {
-        vacant_cell(&self.marks, &self.cells, number)?;
-        Ok(())
+        vacant_cell(&self.marks, &self.cells, number)
     }
 
     // What all open nodes hold, asked of them; a sum too large for a volume is the largest volume.
     pub fn storage(&self) -> Centilitres
-        ensures sum { result.0 ≡ min (all_stored self.now.roll) (2 ^ 64 - 1) }
-        ensures kept { Kept self.now }
+        ensures sum { result.0 ≡ min (all_stored (rolled_in self.now).roll) (2 ^ 64 - 1) }
+        ensures kept { Kept (rolled_in self.now) }
+        ensures linked { Linked self.now.marks self.now.cells }
     {
         let cells = self.cells.as_slice();
         self.marks.iter().fold(Centilitres::zero(), |sum, mark| {
@@ -52,7 +52,7 @@ impl<P: Places> Roll<P> {
     }
 }
 
-// The functions below are over marks and cells: a call of a method would see the roll by its model, which hides both.
+// The functions below are over marks and cells: a call of a method would close the roll, whose cells would then be known by its model alone.
 
 // The mark of a number.
 fn mark(marks: &[Mark; NUMBERS], number: u32) -> Result<Mark, DistrictFault>

@@ -18,18 +18,18 @@ pub struct Roll<P: Places> {
     pub(crate) cells: Vec<Option<Node<P>>>,
 }
 
-// Clauses see the standing of each number, and how many cells there are.
+// Clauses see the mark of each number, and the node in each cell.
 impl<P: Places> Model for Roll<P> {
     ghost use Rattle.std.specs.Coded.{codes};
     ghost use Rattle.reservoir.specs.Coding.{coded_settings};
     ghost use Rattle.roll.specs.Links.{Linked};
-    ghost use Rattle.roll.specs.Rolls.{Rolled, rolled};
+    ghost use Rattle.roll.specs.Rolls.{Contents};
 
-    ghost Value = { Rolled };
+    ghost Value = { Contents };
 
     ghost coded = { Prim.hlevel (codes, coded_settings) };
 
-    ghost view = { λ r. rolled r.marks r.cells.items };
+    ghost view = { λ r. record { marks = r.marks; cells = r.cells.items } };
 
     ghost invariant = { λ r. Linked r.marks r.cells.items };
 }

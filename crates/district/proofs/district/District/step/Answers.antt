@@ -3,6 +3,7 @@ use Rattle.std.proofs.lemmas.Result.{err_from_is_err_and}
 use Rattle.book.specs.Books.{book_of}
 use Rattle.model.proofs.Offered.{verdict_offered}
 use Rattle.node.specs.Answers.{yielded}
+use Rattle.roll.specs.Rolls.{rolled_in}
 use Rattle.district.proofs.Follows.{step_refused_by, step_too_large, step_granted, step_answered}
 use Rattle.district.proofs.district.District.step.Goals as goal
 
@@ -11,14 +12,14 @@ returns-in_err-offer g c =
     let d = c.self.inside in
     let p = err_from_is_err_and c.from_residual-in_err-offer.result c.from_residual-in_err-offer.ensures.1 in
     rw (p.1, p.2, ← c.self.view_is)
-    (step_refused_by g.P.Places.makes g.met.P.Places.meanings d.roll (book_of d.book) c.args.number
+    (step_refused_by g.P.Places.makes g.met.P.Places.meanings (rolled_in d.roll) (book_of d.book) c.args.number
     c.in_ok-node.node.now c.in_ok-node.ensures c.args.forcing _ (verdict_offered _ _ (Err _) c.in_err-offer.ensures) c.self.invariant)
 
 pub returns-then-not-has_room_for : goal.returns-then-not-has_room_for
 returns-then-not-has_room_for g c =
     let d = c.self.inside in
     rw (← c.self.view_is)
-    (step_too_large g.P.Places.makes g.met.P.Places.meanings d.roll (book_of d.book) c.args.number
+    (step_too_large g.P.Places.makes g.met.P.Places.meanings (rolled_in d.roll) (book_of d.book) c.args.number
     c.in_ok-node.node.now c.in_ok-node.ensures c.args.forcing
     (verdict_offered _ _ (Ok tt) c.in_ok-offer.ensures)
     c.income-income.result.rain.0 c.income-income.result.rise.0 c.plus.result.0 c.income-income.ensures.rain c.income-income.ensures.rise c.plus.ensures
@@ -29,13 +30,13 @@ returns g c =
     let d = c.self.inside in
     let n = c.in_ok-node.node.now in
     let e = c.in_ok-node.ensures in
-    let s = step_answered g.P.Places.makes d.roll c.step.new.self c.args.number c.args.forcing n c.in_ok-answer.answer e c.in_ok-answer.ensures in
+    let s = step_answered g.P.Places.makes (rolled_in d.roll) (rolled_in c.step.new.self) c.args.number c.args.forcing n c.in_ok-answer.answer e c.in_ok-answer.ensures in
     rw (← c.self.view_is)
-    (step_granted g.P.Places.makes g.met.P.Places.meanings d.roll (book_of d.book) c.args.number n e c.args.forcing
+    (step_granted g.P.Places.makes g.met.P.Places.meanings (rolled_in d.roll) (book_of d.book) c.args.number n e c.args.forcing
     (verdict_offered _ _ (Ok tt) c.in_ok-offer.ensures)
     c.income-income.result.rain.0 c.income-income.result.rise.0 c.plus.result.0 c.income-income.ensures.rain c.income-income.ensures.rise c.plus.ensures
     (sym c.if-not-has_room_for.ensures)
-    (yielded c.in_ok-answer.answer) c.step.new.self (book_of c.book_step.new.self) s.0 s.1 c.book_step.ensures c.self.invariant)
+    (yielded c.in_ok-answer.answer) (rolled_in c.step.new.self) (book_of c.book_step.new.self) s.0 s.1 c.book_step.ensures c.self.invariant)
 
 pub invariant_of-self-2 : goal.invariant_of-self-2
 invariant_of-self-2 g c = (returns g c).1

@@ -20,4 +20,4 @@ returns g c =
     _ _ _ _ (slice_gives c.iter.result) (omega (arith, c.zero.ensures)) c.fold.ensures.ran in
     let all = ap (λ x. sum_by (under x) c.iter.result.rest.now) c.as_slice-cells.ensures.value ∙ ap (sum_by (under r.cells.items)) c.iter.ensures.rest
     ∙ stored_by_marks r.cells.items r.marks in
-    rw (← c.self.view_is) (record { sum = sum ∙ ap (λ n. min n (2 ^ 64 - 1)) all; kept = kept_by r.marks r.cells.items c.self.invariant })
+    rw (← c.self.view_is) (record { sum = sum ∙ ap (λ n. min n (2 ^ 64 - 1)) all; kept = kept_by r.marks r.cells.items c.self.invariant; linked = c.self.invariant })
