@@ -1,5 +1,5 @@
 -- The reservoirs that the settings of a storm make.
-use Rattle.std.specs.Prelude.{◌≡◌, ℕ, List, [], ◌∷◌, replicate}
+use Rattle.std.specs.Prelude.{◌≡◌, ℕ, List, [], ◌∷◌, ◌++◌, replicate}
 use Rattle.hydrograph.specs.declared.storm.Settings.{Settings}
 use Rattle.reservoir.specs.Makes.{linear, lag, fractions, steps}
 use Rattle.reservoir.specs.Meaning.{Settings as MakeSettings, joined}
@@ -8,7 +8,7 @@ use Rattle.reservoir.specs.contracts.linear.LinearReservoir.TheImpl.{ghosts as o
 use Rattle.reservoir.specs.declared.lag.Lag.{Lag}
 use Rattle.reservoir.specs.declared.linear.Linear.{Linear}
 use Rattle.reservoir.specs.declared.series.Series.{Series}
-use Rattle.routing.specs.Gauges.{Gauge}
+use Rattle.routing.specs.Gauges.{Gauge, gauge}
 use Rattle.routing.specs.declared.side_by_side.SideBySide.{SideBySide}
 
 -- an empty linear reservoir and an empty lag of valid settings
@@ -28,8 +28,11 @@ fresh s c = record { settings = s; cells = c; taken = 0; given = 0 }
 pub record Prepares (s : Settings) (made : SideBySide Linear Lag (Series Linear Lag of_linear of_lag)) : Type 0 where
   pub fractions_valid : linear.Valid (fractions s.recession s.retention)
   pub steps_valid : lag.Valid (steps s.steps)
-  pub first : made.first.gauge ≡ fresh (fractions s.recession s.retention) (0 ∷ [])
-  pub second : made.second.gauge ≡ fresh (steps s.steps) (replicate s.steps 0)
+  pub first : gauge of_linear.settings of_linear.cells made.first ≡ fresh (fractions s.recession s.retention) (0 ∷ [])
+  pub second : gauge of_lag.settings of_lag.cells made.second ≡ fresh (steps s.steps) (replicate s.steps 0)
   pub third :
-      made.third.gauge
+      gauge
+      (λ r. joined (of_linear.settings r.first) (of_lag.settings r.second))
+      (λ r. of_linear.cells r.first ++ of_lag.cells r.second)
+      made.third
       ≡ fresh (joined (fractions s.recession s.retention) (steps s.steps)) (0 ∷ replicate s.steps 0)

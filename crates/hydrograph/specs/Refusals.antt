@@ -8,8 +8,7 @@ use Rattle.hydrograph.specs.declared.refused.VolumeFault.TheVariants.{NotANumber
 use Rattle.hydrograph.specs.declared.storm.Settings.{Settings}
 use Rattle.reservoir.specs.Faults.{Invalid, Full}
 use Rattle.reservoir.specs.Makes.{linear, lag, fractions, steps}
-use Rattle.routing.specs.SideBySide.{FirstFull}
-use Rattle.routing.specs.declared.side_by_side.SideBySide.{SideBySide}
+use Rattle.routing.specs.SideBySide.{FirstFull, Gauges}
 
 -- settings that the line writes as three numbers, and of which P holds
 pub record Written (line : List ℕ) (P : Settings → Type 0) : Type 0 where
@@ -31,7 +30,7 @@ RefusesSettings line (Linear fault) = Written line (λ s. RefusesNumbers s (Line
 RefusesSettings line (Lag fault) = Written line (λ s. RefusesNumbers s (Lag fault))
 
 -- a volume: the line is no number, or the first of three reservoirs without room for it is named
-abbrev pub RefusesVolume : {F S T : Type 0} → List ℕ → SideBySide F S T → VolumeFault → Type 0
+abbrev pub RefusesVolume : List ℕ → Gauges → VolumeFault → Type 0
 RefusesVolume line three NotANumber = (n : ℕ) → Writes line n → ⊥
 RefusesVolume line three (NoRoom no_room) =
     (n : ℕ) × (Writes line n × (Full no_room.fault × FirstFull no_room.position three n))

@@ -4,7 +4,7 @@ ghost use Rattle.decimal.specs.Reading.{Writes};
 ghost use Rattle.hydrograph.specs.Entries.{NextEntry, passed};
 ghost use Rattle.hydrograph.specs.Prepared.{LinearAndLag, Prepares};
 ghost use Rattle.hydrograph.specs.Refusals.{RefusesNumbers, RefusesSettings, RefusesVolume, Written};
-ghost use Rattle.routing.specs.SideBySide.{AllPass};
+ghost use Rattle.routing.specs.SideBySide.{AllPass, gauges};
 ghost use Rattle.std.specs.Prelude.{◌≡◌, MatchResult};
 
 use crate::refused::{SettingsFault, VolumeFault};
@@ -87,9 +87,9 @@ pub fn route<F: Reservoir, S: Reservoir, T: Reservoir>(
     reservoirs: &mut SideBySide<F, S, T>,
     line: &[u8],
 ) -> Result<(Centilitres, Step), VolumeFault>
-    ensures { MatchResult result
-        (λ taken. Writes line.now taken.0.0 × AllPass F.Reservoir.make S.Reservoir.make T.Reservoir.make reservoirs.old taken.0.0 taken.1 reservoirs.new)
-        (λ fault. RefusesVolume line.now reservoirs.old fault × (reservoirs.new ≡ reservoirs.old)) }
+    ensures { let all = gauges F.settings F.cells S.settings S.cells T.settings T.cells in MatchResult result
+        (λ taken. Writes line.now taken.0.0 × AllPass F.make S.make T.make (all reservoirs.old) taken.0.0 taken.1 (all reservoirs.new))
+        (λ fault. RefusesVolume line.now (all reservoirs.old) fault × (reservoirs.new ≡ reservoirs.old)) }
 {
     let number = natural(line).ok_or(VolumeFault::NotANumber)?;
     let volume = Centilitres(number);

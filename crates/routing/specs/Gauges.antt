@@ -4,6 +4,7 @@ use Rattle.reservoir.specs.Cells.{capacity, held}
 use Rattle.reservoir.specs.Faults.{Full}
 use Rattle.reservoir.specs.Meaning.{Settings, Make, Accepts}
 use Rattle.reservoir.specs.declared.fault.Fault.{Fault}
+use Rattle.routing.specs.declared.gauged.Gauged.{Gauged}
 use Rattle.routing.specs.declared.gauged.Passage.{Passage}
 
 -- a reservoir's settings and cells, and everything that it has taken and given
@@ -13,10 +14,14 @@ pub record Gauge : Type 0 where
   pub taken : ℕ
   pub given : ℕ
 
--- a gauged reservoir: the reservoir itself, and what its gauge says
-pub record Reading (R : Type 0) : Type 0 where
-  pub reservoir : R
-  pub gauge : Gauge
+-- that of a gauged reservoir, by what its type says of settings and cells
+abbrev pub gauge : {R : Type 0} → (R → Settings) → (R → List ℕ) → Gauged R → Gauge
+gauge settings cells g = record {
+  settings = settings g.reservoir;
+  cells = cells g.reservoir;
+  taken = g.taken.0;
+  given = g.given.0;
+}
 
 -- the largest total, and a total after one more amount
 abbrev pub largest : ℕ

@@ -1,7 +1,7 @@
 // Three reservoirs of any makes, offered the same volumes: all take a volume or none does.
 
 ghost use Rattle.reservoir.specs.Faults.{Full};
-ghost use Rattle.routing.specs.SideBySide.{AllPass, FirstFull};
+ghost use Rattle.routing.specs.SideBySide.{AllPass, FirstFull, gauges};
 ghost use Rattle.std.specs.Prelude.{◌≡◌, Ok, Err, MatchResult};
 
 use crate::gauged::{Gauged, Passage};
@@ -10,7 +10,7 @@ use reservoir::fault::Fault;
 use reservoir::interface::Reservoir;
 
 #[derive(Drop)]
-pub struct SideBySide<F: Reservoir, S: Reservoir, T: Reservoir> {
+pub struct SideBySide<F, S, T> {
     pub first: Gauged<F>,
     pub second: Gauged<S>,
     pub third: Gauged<T>,
@@ -41,9 +41,9 @@ pub struct NoRoom {
 impl<F: Reservoir, S: Reservoir, T: Reservoir> SideBySide<F, S, T> {
     // Offers a volume to each in turn; where all have room, each takes it, else none does.
     pub fn step(&mut self, volume: Centilitres) -> Result<Step, NoRoom>
-        ensures { MatchResult result
-            (λ step. AllPass F.Reservoir.make S.Reservoir.make T.Reservoir.make self.old volume.0 step self.new)
-            (λ refused. Full refused.fault × (FirstFull refused.position self.old volume.0 × (self.new ≡ self.old))) }
+        ensures { let all = gauges F.settings F.cells S.settings S.cells T.settings T.cells in MatchResult result
+            (λ step. AllPass F.make S.make T.make (all self.old) volume.0 step (all self.new))
+            (λ refused. Full refused.fault × (FirstFull refused.position (all self.old) volume.0 × (self.new ≡ self.old))) }
     {
         at(self.first.reservoir.offer(volume), Position::First)?;
         at(self.second.reservoir.offer(volume), Position::Second)?;
