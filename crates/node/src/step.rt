@@ -2,7 +2,7 @@
 
 ghost use Rattle.std.specs.Prelude.{◌≡◌, ◌-◌, ◌^◌, min, MatchResult};
 ghost use Rattle.card.specs.Checking.{numbers_of};
-ghost use Rattle.card.specs.Limits.{AreasWithin, ConcentrationsWithin};
+ghost use Rattle.card.specs.Limits.{AreasWithin, Complete, ConcentrationsWithin};
 ghost use Rattle.ground.specs.Limits.{InRange};
 ghost use Rattle.node.specs.Answers.{Brings, Offers, Shows, Steps};
 ghost use Rattle.node.specs.Laws.{MoreRainGivesNoLess, Sound, StaysSound, StepsBalance};
@@ -82,7 +82,8 @@ impl<P: Places> Node<P> {
     pub fn look(&self) -> View
         ensures shows { Shows self.now result }
         ensures sound { Sound P.Places.makes self.now }
-        ensures checked { AreasWithin self.now.card.areas × ConcentrationsWithin self.now.card.concentrations.by_flow }
+        ensures checked { AreasWithin self.now.card.areas
+            × (ConcentrationsWithin self.now.card.concentrations.by_flow × Complete self.now.card.concentrations.by_flow) }
     {
         View {
             moisture: self.ground.moisture(),
