@@ -53,7 +53,8 @@ impl<P: Places> Session<P> {
 
     // Ends the sheet: refused where a card is half made.
     pub fn finish(&self) -> Result<Option<Entry>, SheetFault>
-        ensures { told result ≡ finishes self.now.stage }
+        ensures answer { told result ≡ finishes self.now.stage }
+        ensures sound { Sound P.Places.makes self.now.district }
     {
         match &self.stage {
             Stage::Idle => Ok(None),
