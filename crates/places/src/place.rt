@@ -3,21 +3,21 @@
 ghost use Rattle.places.specs.Numbers.{number};
 ghost use Rattle.std.specs.Prelude.{◌≡◌};
 
-// Each by its number, from 1 to 6.
 #[derive(Clone, Copy, PartialEq, Eq, Debug)]
 pub enum Place {
-    Open = 1,
-    Paved = 2,
-    Sewer = 3,
-    Surface = 4,
-    Quick = 5,
-    Slow = 6,
+    Open,
+    Paved,
+    Sewer,
+    Surface,
+    Quick,
+    Slow,
 }
 
+// Its number, from 1 to 6.
 impl From<Place> for u8 {
     ghost from_gives = { λ place n. n ≡ number place };
 
     fn from(place: Place) -> u8 {
-        place as u8
+        place as u8 + 1
     }
 }
