@@ -108,22 +108,22 @@ fn write_look(rt: &impl Print, number: u32, answer: Result<View, DistrictFault>)
 
 fn write_reading(rt: &impl Print, reading: &Reading) -> io::Result<()> {
     let book = reading.book;
-    print!(rt; "read rain {} rise {}", book.rain.0, book.rise.0)?;
     print!(rt;
-        " brought in {} evaporated {}",
-        book.brought_in.0, book.evaporated.0
+        "read rain {} rise {} brought in {} evaporated {}",
+        book.rain.0, book.rise.0, book.brought_in.0, book.evaporated.0
     )?;
-    print!(rt; " discharged {} sunk {}", book.discharged.0, book.sunk.0)?;
-    print!(rt; " ceded {} storage {}", book.ceded.0, reading.storage.0)?;
+    print!(rt;
+        " discharged {} sunk {} ceded {} storage {}",
+        book.discharged.0, book.sunk.0, book.ceded.0, reading.storage.0
+    )?;
     write_grams(rt, &book.loads)?;
     print!(rt;
         "closes {} + {} + {}",
         book.rain.0, book.rise.0, book.brought_in.0
     )?;
-    print!(rt; " = {} + {}", book.evaporated.0, book.discharged.0)?;
     println!(rt;
-        " + {} + {} + {}",
-        book.sunk.0, book.ceded.0, reading.storage.0
+        " = {} + {} + {} + {} + {}",
+        book.evaporated.0, book.discharged.0, book.sunk.0, book.ceded.0, reading.storage.0
     )
 }
 
@@ -137,16 +137,18 @@ fn write_grams(rt: &impl Print, loads: &[Mass; NUTRIENTS]) -> io::Result<()> {
 
 fn write_balance(rt: &impl Print, reading: &Reading) -> io::Result<()> {
     let book = reading.book;
-    print!(rt; "balance rain {} + rise {}", book.rain.0, book.rise.0)?;
     print!(rt;
-        " + brought in {} = evaporated {}",
-        book.brought_in.0, book.evaporated.0
+        "balance rain {} + rise {} + brought in {}",
+        book.rain.0, book.rise.0, book.brought_in.0
     )?;
     print!(rt;
-        " + discharged {} + sunk {}",
-        book.discharged.0, book.sunk.0
+        " = evaporated {} + discharged {}",
+        book.evaporated.0, book.discharged.0
     )?;
-    println!(rt; " + ceded {} + storage {}", book.ceded.0, reading.storage.0)
+    println!(rt;
+        " + sunk {} + ceded {} + storage {}",
+        book.sunk.0, book.ceded.0, reading.storage.0
+    )
 }
 
 fn write_refusal(rt: &impl Print, call: &str, number: u32, fault: DistrictFault) -> io::Result<()> {
