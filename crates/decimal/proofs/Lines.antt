@@ -1,14 +1,18 @@
 -- Lines of numbers with a space between each two, and what `naturals` has read of one. It rests on `Forms` and on the library's lemmas of lists.
-use Rattle.std.proofs.Common.{◌≡◌, ℕ, suc, ◌+◌, ◌^◌, ◌<◌, ◌≤◌, List, [], ◌∷◌, ◌++◌, map, length, get_or, take, drop, set, Some, None, decimal, Option, is_some, not, sym, refl, ap, ◌∙◌, arith, length-set, length-take, Bor}
+use Rattle.std.proofs.Common.{◌≡◌, ℕ, zero, suc, ◌+◌, ◌^◌, ◌<◌, ◌≤◌, List, [], ◌∷◌, ◌++◌, map, length, get_or, take, drop, set, replicate, Some, None, decimal, Option, is_some, not, sym, refl, ap, ◌∙◌, arith, length-set, take-append-drop, length-take, Bor}
+use lib.ListN.{length-replicate}
 use Rattle.std.specs.Bool.{then_some}
 use Rattle.std.specs.Str.Iter.{LacksByte}
 use Rattle.std.specs.List.{join_with_byte, flat_map, AllByRecursion}
 use Rattle.std.proofs.lemmas.Fmt.{decimal_injective}
 use Rattle.std.proofs.ByRecursion.{All-get_or, All-set, All-take}
-use Rattle.std.proofs.lemmas.List.{append-nil, append_assoc, at_drop_more, at_drop_all, drop_all, flat_map_more, length-take-le, take_all, take_more_set}
+use Rattle.std.proofs.lemmas.List.{append-nil, append_assoc, at_drop_more, at_drop_all, drop_all, drop_more, flat_map_more, length-take-le, nil_from_length, take_all, take_more_set}
 use Rattle.decimal.specs.Reading.{SomeExactly, Writes, WritesAll, after_space}
 use Rattle.decimal.proofs.Exactly.{none, some}
 use Rattle.decimal.proofs.Forms.{decimal_lacks_space}
+
+pub split_at_space : (line : List ℕ) (i : ℕ) → i < length line → get_or line i 0 ≡ 32 → line ≡ take i line ++ (32 ∷ drop (i + 1) line)
+split_at_space line i within space = sym (take-append-drop i line) ∙ ap (λ l. take i line ++ l) (drop_more line i 0 within ∙ ap (λ b. b ∷ drop (i + 1) line) space)
 
 -- empty, or with a space in front
 abbrev pub SpaceFirst : List ℕ → Type 0
@@ -55,6 +59,10 @@ rejoined_from_spaced line (n ∷ ns) e = cc (rejoined_spaced n ns)
 abbrev Below : List ℕ → Type 0
 Below ns = AllByRecursion (λ n. n < 10 ^ 18) ns
 
+zeros_below : (count : ℕ) → Below (replicate count 0)
+zeros_below zero = tt
+zeros_below (suc count) = (omega arith, zeros_below count)
+
 -- where ms and then t are written as ns are, ns begins with ms, and t is how the others are written
 others :
     (ms ns t : List ℕ) → Below ms → Below ns → SpaceFirst t → length ms ≤ length ns → spaced ms ++ t ≡ spaced ns
@@ -77,6 +85,9 @@ pub record Progress (count : ℕ) (line numbers : List ℕ) (i : ℕ) (rest : Op
   pub long : length numbers ≡ count
   pub below : Below numbers
   pub whole : 32 ∷ line ≡ spaced (take i numbers) ++ after_space rest
+
+pub progress_start : (count : ℕ) (line : Bor (List ℕ)) → (count ≡ 0 → length line.now ≡ 0 → ⊥) → Progress count line.now (replicate count 0) 0 (Some line)
+progress_start count line filled = record { filled = filled; long = length-replicate count 0; below = zeros_below count; whole = refl }
 
 module _ {count : ℕ} {line numbers : List ℕ} {i : ℕ} {rest : Option (Bor (List ℕ))} (p : Progress count line numbers i rest) (ns : List ℕ) (writes : WritesAll count line ns) where
   -- any numbers that the line writes are those read so far, and then those of the rest
@@ -129,3 +140,9 @@ done {count} {line} {numbers} {i} None all p =
     (p.long, p.below, rejoined_from_spaced line numbers (p.whole ∙ append-nil (spaced (take i numbers)) ∙ ap spaced whole))
     (λ ns writes. cc ((remaining p ns writes (omega arith)).0, drop_all i ns (omega arith), append-nil numbers))
 done {i = i} (Some l) all p = none (λ ns writes. let e = (remaining p ns writes (omega arith)).1 ∙ at_drop_all spaced ns i (omega arith) in let z : ◌≡◌ {A = ℕ} 0 1 = cc in omega arith)
+
+-- the empty line is the line of no numbers
+pub empty_line : (count : ℕ) (line : List ℕ) → count ≡ 0 → length line ≡ 0 → SomeExactly (Some (replicate count 0)) (WritesAll count line)
+empty_line zero [] _ _ = some [] (refl, tt, refl) (λ ns writes. sym (nil_from_length ns writes.0))
+empty_line zero (b ∷ line) _ e = absurd (omega arith)
+empty_line (suc count) line e _ = absurd (omega arith)
