@@ -1,5 +1,5 @@
 -- What the words of a line have ahead, and what their calls hand out.
-use Rattle.std.specs.Prelude.{◌≡◌, ℕ, ◌-◌, ◌⊎◌, List, [], ◌∷◌, ◌++◌, length, Some, None, Option}
+use Rattle.std.specs.Prelude.{◌≡◌, ℕ, ◌-◌, ◌<◌, ◌≤◌, ◌⊎◌, List, [], ◌∷◌, ◌++◌, length, Some, None, Option, ◌≢◌, slice_index}
 use Rattle.lines.specs.declared.reader.Line.{Line}
 use Rattle.std.specs.Str.Iter.{LacksByte}
 use Rattle.words.specs.declared.words.Word.{Word}
@@ -16,6 +16,12 @@ Spaced bytes = (more : List ℕ) × (bytes ≡ 32 ∷ more)
 -- bytes in which a word ends at once: there are none, or they begin with a space
 abbrev pub Ends : List ℕ → Type 0
 Ends bytes = (bytes ≡ []) ⊎ Spaced bytes
+
+-- The first space stands after n bytes; where there is none, n is the number of bytes.
+pub record WordLength (bytes : List ℕ) (n : ℕ) : Type 0 where
+  pub within : n ≤ length bytes
+  pub lacks : (k : ℕ) → k < n → slice_index bytes k ≢ 32
+  pub ends : n < length bytes → slice_index bytes n ≡ 32
 
 -- A line taken apart: none where it is empty; else its first byte, and the words behind it.
 abbrev pub TakesApart : Line → Option (ℕ × Words) → Type 0
