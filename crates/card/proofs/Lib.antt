@@ -1,3 +1,4 @@
+mod Places
 pub mod Within
 pub mod Carried
 pub mod Laws
