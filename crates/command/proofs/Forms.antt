@@ -10,7 +10,7 @@ use Rattle.quantity.specs.declared.load.Concentration.{Concentration}
 use Rattle.decimal.specs.Reading.{SomeExactly}
 use Rattle.decimal.proofs.Exactly.{none, some}
 use Rattle.words.specs.Numbers.{WritesNaturals, spaced}
-use Rattle.command.specs.Letters.{letter_o, letter_g, letter_k, letter_c, letter_s, letter_w}
+use Rattle.command.specs.Letters.{letter_o, letter_g, letter_k, letter_c, letter_r, letter_s, letter_w}
 use Rattle.command.specs.Parts.{Behind}
 use Rattle.command.specs.Written.{NineDigits, Writable, areas_numbers, concentration_numbers, fraction_numbers, letter, soil_numbers, words}
 use Rattle.command.specs.declared.command.Command.{Command}
@@ -129,6 +129,10 @@ module _ (first : ℕ) (natural : first ≡ letter_s → ⊥) {bytes : List ℕ}
       let r = behind_writes other other_behind in
       let same : ns ≡ r.0 = cc ((exactly r.0).1 r.1) in
       made ∙ ap (make first) same ∙ sym r.2)
+
+-- behind the letter r there is nothing
+pub read_behind : {bytes : List ℕ} → bytes ≡ [] → SomeExactly (Some Read) (Behind letter_r bytes)
+read_behind empty = some Read (refl, tt, empty) (λ other behind. sym (behind_writes letter_r (λ e. omega arith) other behind).2)
 
 -- the chunks of a list, by their places
 chunk : {X : Type 0} (n count : ℕ) (xs : List X) (k : ℕ) → k < count → get_or (first_chunks n count xs) k [] ≡ take n (drop (n * k) xs)

@@ -9,8 +9,7 @@ use Rattle.decimal.proofs.Exactly.{none, some}
 use Rattle.ground.specs.declared.forcing.Forcing.{Forcing}
 use Rattle.words.specs.Numbers.{WritesNatural, WritesSigned, spaced}
 use Rattle.words.specs.Readings.{NextNumber, NoNumber}
-use Rattle.words.specs.Laws.{natural_legible, signed_legible}
-use Rattle.words.proofs.Numbers.{not_unread, read_next}
+use Rattle.words.proofs.Numbers.{natural_form, signed_form, not_unread, read_next}
 use Rattle.command.specs.Letters.{letter_s}
 use Rattle.command.specs.Parts.{Behind}
 use Rattle.command.specs.Written.{Writable, words}
@@ -46,29 +45,29 @@ from_rain forcing = decimal forcing.rain.0 ∷ from_evaporation forcing
 -- After each word, every step that is behind the letter has the numbers read so far, and its other words are ahead.
 module _ {all b1 : List ℕ} (number : ℕ) (first : NextNumber WritesNatural all (Some number) b1) where
   after_number : (n : ℕ) (f : Forcing) → StepBehind all n f → (number ≡ n) × (b1 ≡ spaced (from_rain f))
-  after_number n f (below, whole) = read_next natural_legible (from_rain f) _ n (below.0, refl) whole number first
+  after_number n f (below, whole) = read_next natural_form (from_rain f) _ n (below.0, refl) whole number first
 
   pub none_at_rain : NoNumber WritesNatural b1 → SomeExactly None (Behind letter_s all)
-  none_at_rain unread = never_behind (λ n f b. not_unread natural_legible (from_evaporation f) _ f.rain.0 (b.0.1.0, refl) (after_number n f b).1 unread)
+  none_at_rain unread = never_behind (λ n f b. not_unread natural_form (from_evaporation f) _ f.rain.0 (b.0.1.0, refl) (after_number n f b).1 unread)
 
   module _ {b2 : List ℕ} (rain : ℕ) (second : NextNumber WritesNatural b1 (Some rain) b2) where
     after_rain : (n : ℕ) (f : Forcing) → StepBehind all n f → (rain ≡ f.rain.0) × (b2 ≡ spaced (from_evaporation f))
-    after_rain n f b = read_next natural_legible (from_evaporation f) _ f.rain.0 (b.0.1.0, refl) (after_number n f b).1 rain second
+    after_rain n f b = read_next natural_form (from_evaporation f) _ f.rain.0 (b.0.1.0, refl) (after_number n f b).1 rain second
 
     pub none_at_evaporation : NoNumber WritesNatural b2 → SomeExactly None (Behind letter_s all)
     none_at_evaporation unread =
-        never_behind (λ n f b. not_unread natural_legible (from_seepage f) _ f.evaporation.0 (b.0.1.1.0, refl) (after_rain n f b).1 unread)
+        never_behind (λ n f b. not_unread natural_form (from_seepage f) _ f.evaporation.0 (b.0.1.1.0, refl) (after_rain n f b).1 unread)
 
     module _ {b3 : List ℕ} (evaporation : ℕ) (third : NextNumber WritesNatural b2 (Some evaporation) b3) where
       after_evaporation : (n : ℕ) (f : Forcing) → StepBehind all n f → (evaporation ≡ f.evaporation.0) × (b3 ≡ spaced (from_seepage f))
-      after_evaporation n f b = read_next natural_legible (from_seepage f) _ f.evaporation.0 (b.0.1.1.0, refl) (after_rain n f b).1 evaporation third
+      after_evaporation n f b = read_next natural_form (from_seepage f) _ f.evaporation.0 (b.0.1.1.0, refl) (after_rain n f b).1 evaporation third
 
       pub none_at_seepage : NoNumber WritesSigned b3 → SomeExactly None (Behind letter_s all)
-      none_at_seepage unread = never_behind (λ n f b. not_unread signed_legible [] _ f.seepage (b.0.1.1.1.0, refl) (after_evaporation n f b).1 unread)
+      none_at_seepage unread = never_behind (λ n f b. not_unread signed_form [] _ f.seepage (b.0.1.1.1.0, refl) (after_evaporation n f b).1 unread)
 
       module _ {b4 : List ℕ} (seepage : ℤ) (fourth : NextNumber WritesSigned b3 (Some seepage) b4) where
         after_seepage : (n : ℕ) (f : Forcing) → StepBehind all n f → (seepage ≡ f.seepage) × (b4 ≡ [])
-        after_seepage n f b = read_next signed_legible [] _ f.seepage (b.0.1.1.1.0, refl) (after_evaporation n f b).1 seepage fourth
+        after_seepage n f b = read_next signed_form [] _ f.seepage (b.0.1.1.1.0, refl) (after_evaporation n f b).1 seepage fourth
 
         -- they make the step exactly where nothing more is ahead
         pub at_end : (z : ℤ) → z ≡ seepage → SomeExactly (then_some (length b4 == 0) (Step number (record { rain = record { 0 = rain }; evaporation = record { 0 = evaporation }; seepage = z }))) (Behind letter_s all)
