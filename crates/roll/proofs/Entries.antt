@@ -80,7 +80,7 @@ module _ (marks : List Mark) (cells : List (Option Store)) (r : Linked marks cel
         subst Q same_marks (linked_changed (k - 1) (Open i) i (Some n) (stepping n))
 
 -- a changed list of standings makes the whole roll's
-as_rolled : (a b : List Standing) (m n : ℕ) → a ≡ b → m ≡ n → ◌≡◌ {A = Rolled} (record { roll = a; cells = m }) (record { roll = b; cells = n })
+pub as_rolled : (a b : List Standing) (m n : ℕ) → a ≡ b → m ≡ n → ◌≡◌ {A = Rolled} (record { roll = a; cells = m }) (record { roll = b; cells = n })
 as_rolled a b m n e f = cc
 
 -- what the roll then says

@@ -1,5 +1,5 @@
 -- What the marks and cells of a roll say of its numbers.
-use Rattle.std.proofs.Common.{◌≡◌, ℕ, zero, suc, ◌-◌, ◌<◌, ◌≤◌, min, Bool, true, false, cond, not, List, [], ◌∷◌, length, get_or, take, is_some, Some, None, sum_by, count_by, Option, Result, sym, refl, ap, ◌∙◌, subst, arith, length-take, MatchResult}
+use Rattle.std.proofs.Common.{◌≡◌, ℕ, zero, suc, ◌-◌, ◌<◌, ◌≤◌, min, Bool, true, false, cond, not, List, [], ◌∷◌, length, get_or, take, is_some, Some, None, sum_by, count_by, Option, Result, sym, refl, ap, ◌∙◌, subst, arith, length-take, MatchOption, MatchResult}
 use lib.ListN.{length-map}
 use Rattle.std.specs.Option.{ok_or}
 use Rattle.std.specs.List.{position, position_or_len}
@@ -11,7 +11,7 @@ use Rattle.std.proofs.lemmas.List.Sums.{sum_by-cons, count_by-le-length, fails_b
 use Rattle.model.specs.State.{Standing, outside, new, open_with, standing, is_open, open_count, stored, all_stored}
 use Rattle.node.specs.Stores.{Store}
 use Rattle.roll.specs.Links.{marks_open, Used, Linked}
-use Rattle.roll.specs.Rolls.{standing_in, standing_of, standings, Rolled, rolled, Kept, Marked, CellLeft, NoCellLeft, Vacant, Openable, NotVacant}
+use Rattle.roll.specs.Rolls.{standing_in, standing_of, standings, Rolled, rolled, Kept, Marked, NotOpen, CellLeft, NoCellLeft, Vacant, Openable, NotVacant}
 use Rattle.roll.specs.declared.fault.DistrictFault.{DistrictFault}
 use Rattle.roll.specs.declared.fault.DistrictFault.TheVariants.{NoUnusedCell}
 use Rattle.roll.specs.declared.mark.Mark.{Mark}
@@ -127,7 +127,16 @@ one_unused (suc n) (x ∷ xs) (suc i) l m e =
     let h = one_unused n xs i a b e in
     omega (arith, sum_by-cons (λ o. cond (is_some o) 1 0) x (take n xs), at_most_one (is_some x))
 
+-- what is known of an option, at the result that it is made
+pub ok_or_cases : {T E : Type 0} (o : Option T) (fault : E) (r : Result T E) (A : Type 0) (B : T → Type 0) (C : T → Type 0) (D : E → Type 0) →
+    r ≡ ok_or o fault → MatchOption o A B → ((x : T) → B x → C x) → (A → D fault) → MatchResult r C D
+ok_or_cases {T} {E} None fault r A B C D e h some none = let Q : Result T E → Type 0 = λ y. MatchResult y C D in subst Q (sym e) (none h)
+ok_or_cases {T} {E} (Some x) fault r A B C D e h some none = let Q : Result T E → Type 0 = λ y. MatchResult y C D in subst Q (sym e) (some x h)
+
 -- refusals by the standing
+pub not_open_at : (s t : Standing) (fault : DistrictFault) → s ≡ t → NotOpen t fault → NotOpen s fault
+not_open_at s t fault e h = let Q : Standing → Type 0 = λ x. NotOpen x fault in subst Q (sym e) h
+
 pub not_vacant_at : (l : Rolled) (s t : Standing) (fault : DistrictFault) → s ≡ t → NotVacant l t fault → NotVacant l s fault
 not_vacant_at l s t fault e h = let Q : Standing → Type 0 = λ x. NotVacant l x fault in subst Q (sym e) h
 
