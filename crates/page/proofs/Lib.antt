@@ -1,2 +1,4 @@
+pub mod Grams
+pub mod Lines
 pub mod Triples
 pub mod Running
