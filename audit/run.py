@@ -3,13 +3,15 @@
 #
 #     python3 audit/run.py CRATE.. [--count N] [--labels LABEL..]
 #
-# The bugs of a crate stand in audit/CRATE.txt, a block of four lines for each:
-# its label, the file in the crate, a part of one line there, and what replaces
-# it. They are of the kinds that a tired programmer makes. Each goes to the prover
-# as an edit that must fail, in a copy of the repository; with --count only so many
-# of a crate are tried, spread over its list. For each crate it prints how many
-# were refused, and names those that were not: a bug that survives, or an edit that
-# does not compile and so tests nothing. It exits with 1 where a bug survives.
+# The bugs of a crate stand in audit/CRATE.txt, a block of lines for each: its
+# label, the file in the crate, a part of one line there, and what replaces it. Where
+# a bug touches more than one place, further pairs follow, and each applies to what
+# the earlier ones made. They are of the kinds that a tired programmer makes. Each
+# goes to the prover as an edit that must fail, in a copy of the repository; with
+# --count only so many of a crate are tried, spread over its list. For each crate it
+# prints how many were refused, and names those that were not: a bug that survives,
+# or an edit that does not compile and so tests nothing. It exits with 1 where a bug
+# survives.
 
 from __future__ import annotations
 
@@ -29,7 +31,7 @@ ANSWER = re.compile(r"^rt: must-fail \w+/(\S+)\.edit: (refused|NOT REFUSED|BAD E
 @dataclass(frozen=True)
 class Plant:
     label: str
-    edit: str  # the three lines that rt reads
+    edit: str  # the lines that rt reads
 
 
 def plants_of(crate: str) -> list[Plant]:
