@@ -39,7 +39,8 @@ impl<P: Places> Roll<P> {
         vacant_cell(&self.marks, &self.cells, number)
     }
 
-    // What all open nodes hold, asked of them; a sum too large for a volume is the largest volume.
+    // What all open nodes hold, asked of them; a sum too large for a volume is the largest volume. The last two clauses hand on
+    // what every roll keeps.
     pub fn storage(&self) -> Centilitres
         ensures sum { result.0 ≡ min (all_stored (rolled_in self.now).roll) (2 ^ 64 - 1) }
         ensures kept { Kept (rolled_in self.now) }
@@ -52,7 +53,8 @@ impl<P: Places> Roll<P> {
     }
 }
 
-// The functions below are over marks and cells: a call of a method would close the roll, whose cells would then be known by its model alone.
+// The functions below are over marks and cells, so that the roll stays open around them. As methods they are still to be tried:
+// its model shows both.
 
 // The mark of a number.
 fn mark(marks: &[Mark; NUMBERS], number: u32) -> Result<Mark, DistrictFault>

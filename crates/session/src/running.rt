@@ -51,7 +51,7 @@ impl<P: Places> Session<P> {
         }
     }
 
-    // Ends the sheet: refused where a card is half made.
+    // Ends the sheet: refused where a card is half made. The second clause hands on that the district of every session is sound.
     pub fn finish(&self) -> Result<Option<Entry>, SheetFault>
         ensures answer { told result ≡ finishes self.now.stage }
         ensures sound { Sound P.Places.makes self.now.district }
