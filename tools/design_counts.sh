@@ -45,7 +45,7 @@ places '\bas (u|i)(8|16|32|64|128|size)\b' |
     show '4  casts'
 places '\.0 (<|>|<=|>=) |\.0\.(min|max)\(' |
     show '4  order taken on the insides of a quantity'
-places '(store|rolled|district_of|session_of|staged|standing_of) P\.Places\.reservoirs|gauges? [FSTR]\.|rolled_in |volumes \(take' |
+places '(store|rolled|district_of|session_of|staged|standing_of) P\.Places\.reservoirs|gauges? [FSTR]\.|volumes \(take' |
     show '5  clauses that map a value to what it stands for'
 places ': \[\w+; *\w+\],|: usize,$|Vec<Option' |
     show '6  arrays, lengths, places and cells'

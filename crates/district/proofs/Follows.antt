@@ -23,17 +23,13 @@ use Rattle.reservoir.specs.declared.fault.Refusal.{Refusal}
 use Rattle.roll.specs.Rolls.{Rolled, with_standing, CellLeft, StepsAt}
 use Rattle.district.specs.Answers.{district_with, FollowsRules}
 
--- what a call answers and leaves of a sound district
-abbrev pub Follows : List Make → District → (call : Call) → Answer call → District → Type 0
-Follows makes d call a e = Sound makes d → FollowsRules makes d call a e
-
 -- where the rules refuse, so that nothing changes
-pub follows_refused : (makes : List Make) (d : District) (call : Call) (r : Refusal) → does makes d call ≡ refuses d r → Follows makes d call (refused r) d
+pub follows_refused : (makes : List Make) (d : District) (call : Call) (r : Refusal) → does makes d call ≡ refuses d r → FollowsRules makes d call (refused r) d
 follows_refused makes d call r e s = (e, s)
 
 -- where the rules give what is answered and left, which they keep sound
 pub follows_given : (makes : List Make) → Meanings makes → (d : District) (call : Call) → Proper makes call → (o : Done call) (a : Answer call) (e : District) →
-    does makes d call ≡ o → (Sound makes o.after → o ≡ record { answer = a; after = e }) → Follows makes d call a e
+    does makes d call ≡ o → (Sound makes o.after → o ≡ record { answer = a; after = e }) → FollowsRules makes d call a e
 follows_given makes mm d call p o a e q same s =
     let k = subst (λ (x : Done call). Sound makes x.after) q (keeps makes mm d call s p) in
     let z = same k in
@@ -66,12 +62,12 @@ module _ (makes : List Make) (mm : Meanings makes) (l : Rolled) (b : Book) (k : 
         ∙ ap (λ x. cond x (opens (district_with l b) k c ss) (refuses (district_with l b) income_too_large))
         (sym (leb_cut (income b) (storage (opened c ss))) ∙ ap (λ x. leb (income b + x) largest_income) (sym cut) ∙ fits)
 
-    pub opening_too_large : leb (income b + v) largest_income ≡ false → Follows makes (district_with l b) (opening k c ss) (refused income_too_large) (district_with l b)
+    pub opening_too_large : leb (income b + v) largest_income ≡ false → FollowsRules makes (district_with l b) (opening k c ss) (refused income_too_large) (district_with l b)
     opening_too_large fits = follows_refused makes (district_with l b) (opening k c ss) income_too_large (opening_by false fits)
 
     pub opening_granted : Proper makes (opening k c ss) → leb (income b + v) largest_income ≡ true → (m : Rolled) (b' : Book) →
         m ≡ with_standing l k (open_with (opened c ss)) → b' ≡ opening_kept b v →
-        Follows makes (district_with l b) (opening k c ss) (granted v) (district_with m b')
+        FollowsRules makes (district_with l b) (opening k c ss) (granted v) (district_with m b')
     opening_granted proper fits m b' q r =
         let whole : storage (opened c ss) ≡ v = omega (arith, leb-true _ _ fits) in
         follows_given makes mm (district_with l b) (opening k c ss) proper (opens (district_with l b) k c ss) (granted v) (district_with m b') (opening_by true fits)
@@ -83,7 +79,7 @@ module _ (makes : List Make) (mm : Meanings makes) (l : Rolled) (b : Book) (k : 
     stepping_by : (f : Forcing) (v : Verdict) → verdict n f ≡ v → does makes (district_with l b) (stepping k f) ≡ tries_step_of makes (district_with l b) k f n v
     stepping_by f v q = ap (tries_step makes (district_with l b) k f) e ∙ ap (tries_step_of makes (district_with l b) k f n) q
 
-    pub step_refused_by : (f : Forcing) (r : Refusal) → verdict n f ≡ would_refuse r → Follows makes (district_with l b) (stepping k f) (refused r) (district_with l b)
+    pub step_refused_by : (f : Forcing) (r : Refusal) → verdict n f ≡ would_refuse r → FollowsRules makes (district_with l b) (stepping k f) (refused r) (district_with l b)
     step_refused_by f r q = follows_refused makes (district_with l b) (stepping k f) r (stepping_by f (would_refuse r) q)
 
     module _ (f : Forcing) (q : verdict n f ≡ would_step) (rain rise v : ℕ) (rains : rain ≡ rained n.card f) (rises : rise ≡ risen n.card f)
@@ -96,12 +92,12 @@ module _ (makes : List Make) (mm : Meanings makes) (l : Rolled) (b : Book) (k : 
           ∙ ap (λ x. cond x (steps makes (district_with l b) k f n) (refuses (district_with l b) income_too_large))
           (ap (λ x. leb x largest_income) (sym sum) ∙ sym (leb_cut (income b) (rain + rise)) ∙ ap (λ x. leb (income b + x) largest_income) (sym cut) ∙ fits)
 
-      pub step_too_large : leb (income b + v) largest_income ≡ false → Follows makes (district_with l b) (stepping k f) (refused income_too_large) (district_with l b)
+      pub step_too_large : leb (income b + v) largest_income ≡ false → FollowsRules makes (district_with l b) (stepping k f) (refused income_too_large) (district_with l b)
       step_too_large fits = follows_refused makes (district_with l b) (stepping k f) income_too_large (fits_by false fits)
 
       pub step_granted : leb (income b + v) largest_income ≡ true → (y : Yielded) (m : Rolled) (b' : Book) → y ≡ yield_of makes n f →
           m ≡ with_standing l k (open_with (after makes n f)) → b' ≡ step_kept b rain rise y →
-          Follows makes (district_with l b) (stepping k f) (granted y) (district_with m b')
+          FollowsRules makes (district_with l b) (stepping k f) (granted y) (district_with m b')
       step_granted fits y m b' given left kept =
           let booked : b' ≡ step_kept b (rained n.card f) (risen n.card f) (yield_of makes n f) = cc in
           follows_given makes mm (district_with l b) (stepping k f) tt (steps makes (district_with l b) k f n) (granted y) (district_with m b') (fits_by true fits)
@@ -109,7 +105,7 @@ module _ (makes : List Make) (mm : Meanings makes) (l : Rolled) (b : Book) (k : 
           (sym (step_exact makes _ _ b n.card f (yield_of makes n f) s) ∙ sym booked))
 
     pub withdrawal_granted : (v : ℕ) (m : Rolled) (b' : Book) → v ≡ min (storage n) (2 ^ 64 - 1) → m ≡ with_standing l k withdrawn → b' ≡ withdrawal_kept b v →
-        Follows makes (district_with l b) (withdrawing k) (granted v) (district_with m b')
+        FollowsRules makes (district_with l b) (withdrawing k) (granted v) (district_with m b')
     withdrawal_granted v m b' cut q r sound =
         let whole : storage n ≡ v = omega (arith, open_storage_within makes (district_with l b) k n sound e) in
         follows_given makes mm (district_with l b) (withdrawing k) tt (withdraws (district_with l b) k n) (granted v) (district_with m b')
@@ -118,7 +114,7 @@ module _ (makes : List Make) (mm : Meanings makes) (l : Rolled) (b : Book) (k : 
         (sym (withdrawal_exact makes _ _ b (storage n) s) ∙ ap (withdrawal_kept b) whole ∙ sym r)) sound
 
     pub look_granted : (moisture depression : ℕ) (contents : List ℕ) → moisture ≡ n.moisture → depression ≡ n.depression → contents ≡ each_content n.reservoirs →
-        Follows makes (district_with l b) (looking k) (granted (record { moisture = moisture; depression = depression; contents = contents })) (district_with l b)
+        FollowsRules makes (district_with l b) (looking k) (granted (record { moisture = moisture; depression = depression; contents = contents })) (district_with l b)
     look_granted moisture depression contents p q r sound =
         let whole = contents_exact n.reservoirs (open_node makes mm (district_with l b) k n sound e).contents in
         let same : ◌≡◌ {A = View} (record { moisture = n.moisture; depression = n.depression; contents = each_holds n.reservoirs })

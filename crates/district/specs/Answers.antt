@@ -8,16 +8,21 @@ use Rattle.model.specs.Soundness.{Sound}
 use Rattle.model.specs.State as model
 use Rattle.node.specs.declared.answer.View.{View}
 use Rattle.places.specs.Numbers.{listed}
+use Rattle.places.specs.States.{State}
 use Rattle.quantity.specs.declared.water.Centilitres.{Centilitres}
 use Rattle.reservoir.specs.Meaning.{Make}
 use Rattle.roll.specs.Faults.{district_refusal}
-use Rattle.roll.specs.Rolls.{Rolled}
+use Rattle.roll.specs.Rolls.{Rolled, rolled}
 use Rattle.roll.specs.declared.fault.DistrictFault.{DistrictFault}
+use Rattle.district.specs.declared.district.District.{District}
 use Rattle.district.specs.declared.district.Reading.{Reading}
 
 -- A district as the rules have it.
 abbrev pub district_with : Rolled → model.Book → model.District
 district_with l b = record { roll = l.roll; cells = l.cells; book = b }
+
+abbrev pub district_of : {P : Type 0} → (P → List State) → District P → model.District
+district_of reservoirs d = district_with (rolled reservoirs d.roll) (book_of d.book)
 
 -- What is granted, by its numbers.
 abbrev pub volume : Centilitres → ℕ
@@ -34,7 +39,7 @@ abbrev pub answered : {T : Type 0} (call : Call) → (T → Granted call) → Re
 answered call numbers (Ok x) = granted (numbers x)
 answered call numbers (Err fault) = refused (district_refusal fault)
 
--- A call answers and leaves just what the rules give, and what it leaves is sound.
+-- From a sound district a call answers and leaves just what the rules give, and what it leaves is sound.
 abbrev pub FollowsRules : List Make → model.District → (call : Call) → Answer call → model.District → Type 0
 FollowsRules makes before call answer after =
-    (does makes before call ≡ record { answer = answer; after = after }) × Sound makes after
+    Sound makes before → (does makes before call ≡ record { answer = answer; after = after }) × Sound makes after

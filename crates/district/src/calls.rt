@@ -1,7 +1,7 @@
 // The calls of a district. A refused call changes nothing.
 
 ghost use Rattle.card.specs.Checking.{numbers_of};
-ghost use Rattle.district.specs.Answers.{FollowsRules, answered, answered_reading, viewed, volume};
+ghost use Rattle.district.specs.Answers.{FollowsRules, answered, answered_reading, district_of, viewed, volume};
 ghost use Rattle.model.specs.Calls.{granted, looking, opening, reading, stepping, withdrawing};
 ghost use Rattle.model.specs.Laws.{BookCloses, ChangesNothing, MoreRainThroughDistricts, NoCellLeftUnused, TotalsStayWithin, VerdictIsOffer, WithdrawnStays};
 ghost use Rattle.model.specs.Soundness.{Sound};
@@ -25,8 +25,8 @@ use roll::roll::Roll;
 impl<P: Places> District<P> {
     // A new district over its caller's node cells. Whatever they had is let go. Of its makes the laws of districts hold.
     pub fn new(cells: Vec<Option<Node<P>>>) -> Self
-        ensures starts { result ≡ new_district (vec_len cells) }
-        ensures sound { Sound P.Places.makes result }
+        ensures starts { district_of P.Places.reservoirs result ≡ new_district (vec_len cells) }
+        ensures sound { Sound P.Places.makes (district_of P.Places.reservoirs result) }
         ensures book_closes { BookCloses P.Places.makes }
         ensures more_rain_gives_no_less { MoreRainThroughDistricts P.Places.makes }
         ensures no_cell_left_unused { NoCellLeftUnused P.Places.makes }
@@ -50,9 +50,10 @@ impl<P: Places> District<P> {
         card: CheckedCard,
         reservoirs: P,
     ) -> Result<Centilitres, DistrictFault>
-        ensures { FollowsRules P.Places.makes self.old
+        ensures { FollowsRules P.Places.makes (district_of P.Places.reservoirs self.old)
             (opening number (numbers_of card) (P.Places.reservoirs reservoirs))
-            (answered (opening number (numbers_of card) (P.Places.reservoirs reservoirs)) volume result) self.new }
+            (answered (opening number (numbers_of card) (P.Places.reservoirs reservoirs)) volume result)
+            (district_of P.Places.reservoirs self.new) }
     {
         self.roll.vacancy(number)?;
         let node = Node::open(card, reservoirs);
@@ -68,8 +69,9 @@ impl<P: Places> District<P> {
 
     // One step of the node of an open number under a forcing: all of it happens or nothing.
     pub fn step(&mut self, number: u32, forcing: Forcing) -> Result<Yield, DistrictFault>
-        ensures { FollowsRules P.Places.makes self.old
-            (stepping number forcing) (answered (stepping number forcing) yielded result) self.new }
+        ensures { FollowsRules P.Places.makes (district_of P.Places.reservoirs self.old)
+            (stepping number forcing) (answered (stepping number forcing) yielded result)
+            (district_of P.Places.reservoirs self.new) }
     {
         let node = self.roll.node(number)?;
         node.offer(forcing)?;
@@ -84,8 +86,9 @@ impl<P: Places> District<P> {
 
     // Withdraws an open number and its node. Answers the volume that is ceded.
     pub fn withdraw(&mut self, number: u32) -> Result<Centilitres, DistrictFault>
-        ensures { FollowsRules P.Places.makes self.old
-            (withdrawing number) (answered (withdrawing number) volume result) self.new }
+        ensures { FollowsRules P.Places.makes (district_of P.Places.reservoirs self.old)
+            (withdrawing number) (answered (withdrawing number) volume result)
+            (district_of P.Places.reservoirs self.new) }
     {
         let node = self.roll.withdraw(number)?;
         let ceded = node.storage();
@@ -95,8 +98,9 @@ impl<P: Places> District<P> {
 
     // Looks at the node of an open number. Nothing is changed.
     pub fn look(&self, number: u32) -> Result<View, DistrictFault>
-        ensures { FollowsRules P.Places.makes self.now
-            (looking number) (answered (looking number) viewed result) self.now }
+        ensures { FollowsRules P.Places.makes (district_of P.Places.reservoirs self.now)
+            (looking number) (answered (looking number) viewed result)
+            (district_of P.Places.reservoirs self.now) }
     {
         let node = self.roll.node(number)?;
         Ok(node.look())
@@ -104,7 +108,8 @@ impl<P: Places> District<P> {
 
     // Reads the book and the storage, which is asked of all open nodes. Nothing is changed.
     pub fn read(&self) -> Reading
-        ensures { FollowsRules P.Places.makes self.now reading (granted (answered_reading result)) self.now }
+        ensures { FollowsRules P.Places.makes (district_of P.Places.reservoirs self.now)
+            reading (granted (answered_reading result)) (district_of P.Places.reservoirs self.now) }
     {
         Reading {
             book: self.book,

@@ -25,7 +25,7 @@ abbrev pub fresh : MakeSettings → List ℕ → Gauge
 fresh s c = record { settings = s; cells = c; taken = 0; given = 0 }
 
 -- the three reservoirs of valid settings: the linear one, the lag, and such a linear one followed by such a lag
-pub record Prepares (s : Settings) (made : SideBySide Linear Lag (Series Linear Lag of_linear of_lag)) : Type 0 where
+pub record Prepares (s : Settings) (made : SideBySide Linear Lag (Series Linear Lag)) : Type 0 where
   pub fractions_valid : linear.Valid (fractions s.recession s.retention)
   pub steps_valid : lag.Valid (steps s.steps)
   pub first : gauge of_linear.settings of_linear.cells made.first ≡ fresh (fractions s.recession s.retention) (0 ∷ [])

@@ -7,7 +7,7 @@ use Rattle.ground.specs.declared.forcing.Forcing.{Forcing}
 use Rattle.places.specs.Answers.{Refuses}
 use Rattle.places.specs.Numbers.{listed}
 use Rattle.places.specs.declared.fault.PlacedFault.{PlacedFault}
-use Rattle.places.specs.States.{EachAccepts, each_content}
+use Rattle.places.specs.States.{State, EachAccepts, each_content}
 use Rattle.quantity.specs.Amounts.{volume_of}
 use Rattle.reservoir.specs.Meaning.{Make}
 use Rattle.node.specs.Stores.{Store}
@@ -18,7 +18,17 @@ use Rattle.node.specs.declared.answer.View.{View}
 use Rattle.node.specs.declared.answer.Yield.{Yield}
 use Rattle.node.specs.declared.fault.StepFault.{StepFault}
 use Rattle.node.specs.declared.fault.StepFault.TheVariants.{OutOfRange, Reservoir}
+use Rattle.node.specs.declared.node.Node.{Node}
 use Rattle.node.specs.declared.plan.Plan.{Plan}
+
+-- the store of a node over places of the type P, whose reservoirs the first argument gives
+abbrev pub store : {P : Type 0} → (P → List State) → Node P → Store
+store reservoirs n = record {
+  card = record { areas = n.areas.numbers; soil = n.ground.soil.numbers; concentrations = n.concentrations.numbers };
+  moisture = n.ground.moisture.0;
+  depression = n.ground.depression.0;
+  reservoirs = reservoirs n.reservoirs;
+}
 
 -- what a step would do, as the rules give it
 pub record Plans (n : Store) (f : Forcing) (p : Plan) : Type 0 where

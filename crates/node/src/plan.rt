@@ -1,6 +1,6 @@
 // What a step under a forcing would do to a node, before any reservoir is asked.
 
-ghost use Rattle.node.specs.Answers.{Plans};
+ghost use Rattle.node.specs.Answers.{Plans, store};
 
 use crate::hard::hard_surface_evaporation;
 use crate::node::Node;
@@ -23,7 +23,7 @@ pub struct Plan {
 
 impl<P: Places> Node<P> {
     pub(crate) fn plan(&self, forcing: &CheckedForcing) -> Plan
-        ensures { Plans self.now forcing.now.numbers result }
+        ensures { Plans (store P.Places.reservoirs self.now) forcing.now.numbers result }
     {
         let areas = self.areas.numbers();
         let soaking = self.ground.after(forcing);

@@ -4,7 +4,7 @@ ghost use Rattle.std.specs.Prelude.{◌≡◌, ◌-◌, ◌^◌, min, MatchResul
 ghost use Rattle.card.specs.Checking.{numbers_of};
 ghost use Rattle.card.specs.Limits.{AreasWithin, Complete, ConcentrationsWithin};
 ghost use Rattle.ground.specs.Limits.{InRange};
-ghost use Rattle.node.specs.Answers.{Brings, Offers, Shows, Steps};
+ghost use Rattle.node.specs.Answers.{Brings, Offers, Shows, Steps, store};
 ghost use Rattle.node.specs.Laws.{MoreRainGivesNoLess, Sound, StaysSound, StepsBalance};
 ghost use Rattle.node.specs.Stores.{opened, storage};
 ghost use Rattle.node.specs.declared.fault.StepFault.TheVariants.{OutOfRange};
@@ -22,7 +22,7 @@ use quantity::water::{Centilitres, Depth};
 impl<P: Places> Node<P> {
     // Opens a node on a card, which is spent, over six reservoirs, which are emptied. Of its makes the laws of nodes hold.
     pub fn open(card: CheckedCard, mut reservoirs: P) -> Self
-        ensures opened { result ≡ opened (numbers_of card) (P.Places.reservoirs reservoirs) }
+        ensures opened { store P.Places.reservoirs result ≡ opened (numbers_of card) (P.Places.reservoirs reservoirs) }
         ensures stays_sound { StaysSound P.Places.makes }
         ensures steps_balance { StepsBalance P.Places.makes }
         ensures more_rain_gives_no_less { MoreRainGivesNoLess P.Places.makes }
@@ -39,7 +39,7 @@ impl<P: Places> Node<P> {
 
     // Whether a step under a forcing would be accepted. Nothing is changed.
     pub fn offer(&self, forcing: Forcing) -> Result<(), StepFault>
-        ensures { Offers self.now forcing result }
+        ensures { Offers (store P.Places.reservoirs self.now) forcing result }
     {
         let checked = in_range(forcing)?;
         self.reservoirs.offer(&self.plan(&checked).inflows)?;
@@ -48,7 +48,7 @@ impl<P: Places> Node<P> {
 
     // One step under a forcing: all of it happens or nothing.
     pub fn step(&mut self, forcing: Forcing) -> Result<Yield, StepFault>
-        ensures { Steps P.Places.makes self.old forcing result self.new }
+        ensures { Steps P.Places.makes (store P.Places.reservoirs self.old) forcing result (store P.Places.reservoirs self.new) }
     {
         let checked = in_range(forcing)?;
         let plan = self.plan(&checked);
@@ -68,7 +68,7 @@ impl<P: Places> Node<P> {
 
     // What comes in under a forcing, over all areas.
     pub fn income(&self, forcing: Forcing) -> Income
-        ensures { Brings self.now forcing result }
+        ensures { Brings (store P.Places.reservoirs self.now) forcing result }
     {
         let area = self.areas.total();
         Income {
@@ -77,13 +77,13 @@ impl<P: Places> Node<P> {
         }
     }
 
-    // Looks at a node. Nothing is changed. The last two clauses hand on what the parts of a node carry in their types and the
-    // model does not show: every node is sound, and its card was checked.
+    // Looks at a node. Nothing is changed. The last two clauses hand on what the parts of a node carry in their types: every
+    // node is sound, and its card was checked.
     pub fn look(&self) -> View
-        ensures shows { Shows self.now result }
-        ensures sound { Sound P.Places.makes self.now }
-        ensures checked { AreasWithin self.now.card.areas
-            × (ConcentrationsWithin self.now.card.concentrations.by_flow × Complete self.now.card.concentrations.by_flow) }
+        ensures shows { Shows (store P.Places.reservoirs self.now) result }
+        ensures sound { Sound P.Places.makes (store P.Places.reservoirs self.now) }
+        ensures checked { AreasWithin self.now.areas.numbers
+            × (ConcentrationsWithin self.now.concentrations.numbers.by_flow × Complete self.now.concentrations.numbers.by_flow) }
     {
         View {
             moisture: self.ground.moisture(),
@@ -94,7 +94,7 @@ impl<P: Places> Node<P> {
 
     // What a node holds, asked of its reservoirs; a sum too large for a volume is the largest volume.
     pub fn storage(&self) -> Centilitres
-        ensures { result.0 ≡ min (storage self.now) (2 ^ 64 - 1) }
+        ensures { result.0 ≡ min (storage (store P.Places.reservoirs self.now)) (2 ^ 64 - 1) }
     {
         // on the insides: an operator would have to ask for a bound, and by a rule of the project no public call does
         let ground = Depth(self.ground.moisture().0 + self.ground.depression().0);

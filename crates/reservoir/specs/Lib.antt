@@ -1,6 +1,5 @@
 pub mod Cells
 pub mod Meaning
-pub mod Coding
 pub mod Makes
 pub mod Faults
 pub mod Answers

@@ -1,10 +1,10 @@
 // Two reservoirs of any makes in series: what the first gives, the second takes in the same step.
 #![tactic(auto, using(crate::specs::Lists::of_joined))]
 
-ghost use Rattle.reservoir.specs.Cells.{capacity, emptied, held};
+ghost use Rattle.reservoir.specs.Cells.{emptied};
 ghost use Rattle.reservoir.specs.Makes.{series};
 ghost use Rattle.reservoir.specs.Meaning.{joined};
-ghost use Rattle.std.specs.Prelude.{◌≡◌, ◌≤◌, ◌++◌};
+ghost use Rattle.std.specs.Prelude.{◌≡◌, ◌++◌};
 ghost use Rattle.reservoir.specs.Joining.{series_fits, series_meaning};
 
 use crate::fault::Fault;
@@ -13,10 +13,9 @@ use quantity::account::Account;
 use quantity::water::Centilitres;
 
 #[derive(Drop)]
-pub struct Series<F: Reservoir, S: Reservoir> {
+pub struct Series<F, S> {
     first: F,
     second: S,
-    ghost within: { held (F.cells first ++ S.cells second) ≤ capacity },
 }
 
 impl<F: Reservoir, S: Reservoir> Series<F, S> {

@@ -3,7 +3,8 @@ use Rattle.std.proofs.Common.{◌≡◌, ℕ, zero, suc, ◌<◌, cond, ◌⊎�
 use lib.Seq.{take-set-lt}
 use Rattle.std.proofs.lemmas.List.{get_or-set_same, get_or-set_other, get_or-take, map-set}
 use Rattle.std.proofs.lemmas.List.Sums.{sum_by-set}
-use Rattle.node.specs.Stores.{Store}
+use Rattle.node.specs.declared.node.Node.{Node}
+use Rattle.places.specs.States.{State}
 use Rattle.roll.specs.Links.{marks_open, Usable, Used, Alone, Counted}
 use Rattle.roll.specs.Rolls.{standing_in, standing_of, standings}
 use Rattle.roll.specs.declared.mark.Mark.{Mark}
@@ -78,15 +79,15 @@ agree_but f g (x ∷ xs) d (suc j) y h =
     let a = h zero (λ q. omega arith) in
     let b = agree_but f g xs d j y (λ k n. h (suc k) (λ q. n (let z : k ≡ j = omega arith in z))) in cc
 
-module _ (marks : List Mark) (cells : List (Option Store)) (j : ℕ) (m : Mark) (i : ℕ) (x : Option Store) where
-  same_standing : (y : Mark) → (y ≡ Open i → ⊥) → standing_of (set cells i x) y ≡ standing_of cells y
+module _ {P : Type 0} (reservoirs : P → List State) (marks : List Mark) (cells : List (Option (Node P))) (j : ℕ) (m : Mark) (i : ℕ) (x : Option (Node P)) where
+  same_standing : (y : Mark) → (y ≡ Open i → ⊥) → standing_of reservoirs (set cells i x) y ≡ standing_of reservoirs cells y
   same_standing New h = refl
-  same_standing (Open l) h = ap (standing_in) (get_or-set_other cells i l x None (λ q. h (ap Open q)))
+  same_standing (Open l) h = ap (standing_in reservoirs) (get_or-set_other cells i l x None (λ q. h (ap Open q)))
   same_standing Withdrawn h = refl
 
   pub standings_changed : Change marks cells j m i x →
-      standings (set cells i x) (set marks j m) ≡ set (standings cells marks) j (standing_of (set cells i x) m)
+      standings reservoirs (set cells i x) (set marks j m) ≡ set (standings reservoirs cells marks) j (standing_of reservoirs (set cells i x) m)
   standings_changed c =
-      map-set (standing_of (set cells i x)) marks j m
-      ∙ agree_but (standing_of (set cells i x)) (standing_of cells) marks New j (standing_of (set cells i x) m)
+      map-set (standing_of reservoirs (set cells i x)) marks j m
+      ∙ agree_but (standing_of reservoirs (set cells i x)) (standing_of reservoirs cells) marks New j (standing_of reservoirs (set cells i x) m)
       (λ k n. same_standing (get_or marks k New) (c.others k n))

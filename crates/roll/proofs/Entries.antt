@@ -1,115 +1,122 @@
 -- The three changes of a roll: a number entered, its node stepped, and the number withdrawn.
-use Rattle.std.proofs.Common.{◌≡◌, ℕ, zero, suc, ◌-◌, ◌<◌, ◌≤◌, false, cond, List, [], ◌∷◌, length, ◌++◌, get_or, take, drop, set, replicate, is_some, Some, None, Ok, Err, count_by, Option, sym, refl, ap, ◌∙◌, subst, arith, append-nil}
+use Rattle.std.proofs.Common.{◌≡◌, ℕ, zero, suc, ◌-◌, ◌<◌, ◌≤◌, false, cond, List, [], ◌∷◌, length, ◌++◌, get_or, take, drop, set, replicate, is_some, Some, None, Ok, Err, vec_items, vec_len, count_by, Option, sym, refl, ap, ◌∙◌, subst, arith, append-nil}
 use lib.ListN.{length-replicate}
 use Rattle.std.proofs.lemmas.List.{get_or-set_same, length-set, set-get_or, take_all, drop_all}
 use Rattle.std.proofs.lemmas.List.Sums.{sum_by-cons}
 use Rattle.ground.specs.declared.forcing.Forcing.{Forcing}
-use Rattle.model.specs.State.{Standing, outside, new, open_with, withdrawn, standing, entered}
-use Rattle.node.specs.Answers.{Steps}
+use Rattle.model.specs.State.{Standing, outside, open_with, withdrawn, standing, entered}
+use Rattle.node.specs.Answers.{store, Steps}
 use Rattle.node.specs.Stores.{Store}
 use Rattle.node.specs.declared.answer.Yield.{Yield}
 use Rattle.node.specs.declared.fault.StepFault.{StepFault}
+use Rattle.node.specs.declared.node.Node.{Node}
+use Rattle.places.specs.States.{State}
 use Rattle.reservoir.specs.Meaning.{Make}
 use Rattle.roll.specs.Links.{marks_open, Linked}
-use Rattle.roll.specs.Rolls.{standing_in, standings, Rolled, rolled, Marked, NotOpen, with_standing, Vacant, StepsAt}
-use Rattle.roll.specs.declared.fault.DistrictFault.{DistrictFault}
+use Rattle.roll.specs.Rolls.{standing_in, standings, Rolled, with_standing, OpenIn, Vacant, StepsAt}
 use Rattle.roll.specs.declared.fault.DistrictFault.TheVariants.{Step}
 use Rattle.roll.specs.declared.mark.Mark.{Mark}
 use Rattle.roll.specs.declared.mark.Mark.TheVariants.{New, Open, Withdrawn}
-use Rattle.roll.proofs.Standings.{alike, cell_within}
+use Rattle.roll.specs.declared.roll.Roll.{Roll}
+use Rattle.roll.proofs.Standings.{alike}
 use Rattle.roll.proofs.Verdicts.{step_refused}
 use Rattle.roll.proofs.Changes.{Change, usable_changed, used_changed, alone_changed, counted_changed, standings_changed}
 
-module _ (marks : List Mark) (cells : List (Option Store)) (r : Linked marks cells) where
-  pub linked_changed : (j : ℕ) (m : Mark) (i : ℕ) (x : Option Store) → Change marks cells j m i x → Linked (set marks j m) (set cells i x)
+module _ {P : Type 0} (r : Roll P) where
+  abbrev items : List (Option (Node P))
+  items = vec_items r.cells
+
+  pub linked_changed : (j : ℕ) (m : Mark) (i : ℕ) (x : Option (Node P)) → Change r.marks items j m i x → Linked (set r.marks j m) (set items i x)
   linked_changed j m i x c = record {
-    numbers = length-set marks j m ∙ r.numbers;
-    usable = usable_changed marks cells j m i x c r.usable;
-    used = used_changed marks cells j m i x c r.used;
-    alone = alone_changed marks cells j m i x c r.alone;
-    counted = counted_changed marks cells j m i x c r.counted;
+    numbers = length-set r.marks j m ∙ r.linked.numbers;
+    usable = usable_changed r.marks items j m i x c r.linked.usable;
+    used = used_changed r.marks items j m i x c r.linked.used;
+    alone = alone_changed r.marks items j m i x c r.linked.alone;
+    counted = counted_changed r.marks items j m i x c r.linked.counted;
   }
 
-  pub entering : (k i : ℕ) (n : Store) → Vacant marks cells k i → Change marks cells (k - 1) (Open i) i (Some n)
+  within_items : (i : ℕ) → i < vec_len r.cells → i < length items
+  within_items i h = omega (arith, r.cells.ok.0)
+
+  pub entering : (k i : ℕ) (n : Node P) → Vacant r k i → Change r.marks items (k - 1) (Open i) i (Some n)
   entering k i n h = record {
-    in_marks = omega (arith, h.marked.from_one, h.marked.to_last, r.numbers);
-    in_cells = h.within;
+    in_marks = omega (arith, h.marked.from_one, h.marked.to_last, r.linked.numbers);
+    in_cells = within_items i h.within;
     usable = h.usable;
-    others = λ j ne e. let t = sym (r.used j i e) ∙ h.unused in let z : ◌≡◌ {A = ℕ} 0 1 = cc in omega arith;
+    others = λ j ne e. let t = sym (r.linked.used j i e) ∙ h.unused in let z : ◌≡◌ {A = ℕ} 0 1 = cc in omega arith;
     own = λ l e. cc;
     before = ap marks_open h.marked.is ∙ sym h.unused;
     after = refl;
   }
 
   -- in the cell of the number k there may be another node, or none
-  module _ (k i : ℕ) (h : Marked marks k (Open i)) where
-    pub no_other : (j : ℕ) → (j ≡ k - 1 → ⊥) → get_or marks j New ≡ Open i → ⊥
-    no_other j ne e = ne (r.alone (k - 1) j (i, (h.is, e)))
+  module _ (k i : ℕ) (h : OpenIn r k i) where
+    pub no_other : (j : ℕ) → (j ≡ k - 1 → ⊥) → get_or r.marks j New ≡ Open i → ⊥
+    no_other j ne e = ne (r.linked.alone (k - 1) j (i, (h.marked.is, e)))
 
-    place_in_marks : k - 1 < length marks
-    place_in_marks = omega (arith, h.from_one, h.to_last, r.numbers)
+    place_in_marks : k - 1 < length r.marks
+    place_in_marks = omega (arith, h.marked.from_one, h.marked.to_last, r.linked.numbers)
 
-    pub stepping : (n : Store) → Change marks cells (k - 1) (Open i) i (Some n)
+    pub stepping : (n : Node P) → Change r.marks items (k - 1) (Open i) i (Some n)
     stepping n = record {
       in_marks = place_in_marks;
-      in_cells = cell_within marks cells r k i h;
-      usable = r.usable (k - 1) i h.is;
+      in_cells = within_items i h.within;
+      usable = r.linked.usable (k - 1) i h.marked.is;
       others = no_other;
       own = λ l e. cc;
-      before = ap marks_open h.is ∙ sym (r.used (k - 1) i h.is);
+      before = ap marks_open h.marked.is ∙ sym h.used;
       after = refl;
     }
 
-    pub withdrawing : (x : Option Store) → x ≡ None → Change marks cells (k - 1) Withdrawn i x
+    pub withdrawing : (x : Option (Node P)) → x ≡ None → Change r.marks items (k - 1) Withdrawn i x
     withdrawing x e = record {
       in_marks = place_in_marks;
-      in_cells = cell_within marks cells r k i h;
-      usable = r.usable (k - 1) i h.is;
+      in_cells = within_items i h.within;
+      usable = r.linked.usable (k - 1) i h.marked.is;
       others = no_other;
       own = λ l e. let z : ◌≡◌ {A = ℕ} 0 1 = cc in let f : ⊥ = omega arith in elim f [ ];
-      before = ap marks_open h.is ∙ sym (r.used (k - 1) i h.is);
+      before = ap marks_open h.marked.is ∙ sym h.used;
       after = ap is_some (sym e);
     }
 
-    same_marks : set marks (k - 1) (Open i) ≡ marks
-    same_marks = ap (set marks (k - 1)) (sym h.is) ∙ set-get_or marks (k - 1) New
+    same_marks : set r.marks (k - 1) (Open i) ≡ r.marks
+    same_marks = ap (set r.marks (k - 1)) (sym h.marked.is) ∙ set-get_or r.marks (k - 1) New
 
-    pub linked_stepped : (n : Store) → Linked marks (set cells i (Some n))
+    pub linked_stepped : (n : Node P) → Linked r.marks (set items i (Some n))
     linked_stepped n =
-        let Q : List Mark → Type 0 = λ ms. Linked ms (set cells i (Some n)) in
+        let Q : List Mark → Type 0 = λ ms. Linked ms (set items i (Some n)) in
         subst Q same_marks (linked_changed (k - 1) (Open i) i (Some n) (stepping n))
 
--- a changed list of standings makes the whole roll's
-pub as_rolled : (a b : List Standing) (m n : ℕ) → a ≡ b → m ≡ n → ◌≡◌ {A = Rolled} (record { roll = a; cells = m }) (record { roll = b; cells = n })
-as_rolled a b m n e f = cc
-
 -- what the roll then says
-module _ (marks : List Mark) (cells : List (Option Store)) (r : Linked marks cells) where
-  node_there : (i : ℕ) (n : Store) → i < length cells → standing_in (get_or (set cells i (Some n)) i None) ≡ open_with n
-  node_there i n h = ap standing_in (get_or-set_same cells i (Some n) None h)
+module _ {P : Type 0} (reservoirs : P → List State) (r : Roll P) where
+  node_there : (i : ℕ) (n : Node P) → i < length (items r) → standing_in reservoirs (get_or (set (items r) i (Some n)) i None) ≡ open_with (store reservoirs n)
+  node_there i n h = ap (standing_in reservoirs) (get_or-set_same (items r) i (Some n) None h)
 
-  pub entered_as : (k i : ℕ) (n : Store) → Vacant marks cells k i →
-      rolled (set marks (k - 1) (Open i)) (set cells i (Some n)) ≡ with_standing (rolled marks cells) k (open_with n)
+  pub entered_as : (k i : ℕ) (n : Node P) → Vacant r k i →
+      standings reservoirs (set (items r) i (Some n)) (set r.marks (k - 1) (Open i))
+      ≡ set (standings reservoirs (items r) r.marks) (k - 1) (open_with (store reservoirs n))
   entered_as k i n h =
-      let c = entering marks cells r k i n h in
-      as_rolled _ _ _ _
-      (standings_changed marks cells (k - 1) (Open i) i (Some n) c ∙ ap (set (standings cells marks) (k - 1)) (node_there i n c.in_cells))
-      (length-set cells i (Some n))
+      let c = entering r k i n h in
+      standings_changed reservoirs r.marks (items r) (k - 1) (Open i) i (Some n) c
+      ∙ ap (set (standings reservoirs (items r) r.marks) (k - 1)) (node_there i n c.in_cells)
 
-  pub stepped_as : (k i : ℕ) (n : Store) → Marked marks k (Open i) →
-      rolled marks (set cells i (Some n)) ≡ with_standing (rolled marks cells) k (open_with n)
+  pub stepped_as : (k i : ℕ) (n : Node P) → OpenIn r k i →
+      standings reservoirs (set (items r) i (Some n)) r.marks
+      ≡ set (standings reservoirs (items r) r.marks) (k - 1) (open_with (store reservoirs n))
   stepped_as k i n h =
-      let c = stepping marks cells r k i h n in
-      as_rolled _ _ _ _
-      (ap (standings (set cells i (Some n))) (sym (same_marks marks cells r k i h))
-      ∙ standings_changed marks cells (k - 1) (Open i) i (Some n) c
-      ∙ ap (set (standings cells marks) (k - 1)) (node_there i n c.in_cells))
-      (length-set cells i (Some n))
+      let c = stepping r k i h n in
+      ap (standings reservoirs (set (items r) i (Some n))) (sym (same_marks r k i h))
+      ∙ standings_changed reservoirs r.marks (items r) (k - 1) (Open i) i (Some n) c
+      ∙ ap (set (standings reservoirs (items r) r.marks) (k - 1)) (node_there i n c.in_cells)
 
-  pub withdrawn_as : (k i : ℕ) (x : Option Store) → Marked marks k (Open i) → x ≡ None →
-      rolled (set marks (k - 1) Withdrawn) (set cells i x) ≡ with_standing (rolled marks cells) k withdrawn
-  withdrawn_as k i x h e =
-      as_rolled _ _ _ _ (standings_changed marks cells (k - 1) Withdrawn i x (withdrawing marks cells r k i h x e)) (length-set cells i x)
+  pub withdrawn_as : (k i : ℕ) (x : Option (Node P)) → OpenIn r k i → x ≡ None →
+      standings reservoirs (set (items r) i x) (set r.marks (k - 1) Withdrawn)
+      ≡ set (standings reservoirs (items r) r.marks) (k - 1) withdrawn
+  withdrawn_as k i x h e = standings_changed reservoirs r.marks (items r) (k - 1) Withdrawn i x (withdrawing r k i h x e)
+
+-- a changed list of standings makes the whole roll's
+pub as_rolled : (cells : ℕ) (a b : List Standing) → a ≡ b → ◌≡◌ {A = Rolled} (record { roll = a; cells = cells }) (record { roll = b; cells = cells })
+as_rolled cells a b e = cc
 
 -- a number entered as it stands
 same_entered : (roll : List Standing) (k : ℕ) (s : Standing) → 1 ≤ k → standing roll k ≡ s → entered roll k s ≡ roll
@@ -131,14 +138,7 @@ module _ (makes : List Make) (l m : Rolled) (k : ℕ) (f : Forcing) (n after : S
       let Q : Standing → Type 0 = λ s. StepsAt makes s l k f (Err (Step fault)) m in
       let r = step_refused makes n after f fault h in
       subst Q (sym e)
-      (r.0, q ∙ as_rolled _ _ _ _ (ap (λ s. entered l.roll k (open_with s)) r.1 ∙ same_entered l.roll k (open_with n) one e) refl)
-
--- what is refused by the standing of its number
-pub step_unheard : (makes : List Make) (l : Rolled) (k : ℕ) (f : Forcing) (s : Standing) (fault : DistrictFault) → NotOpen s fault → StepsAt makes s l k f (Err fault) l
-step_unheard makes l k f outside fault h = (ap Err h, refl)
-step_unheard makes l k f new fault h = (ap Err h, refl)
-step_unheard makes l k f (open_with n) fault h = elim h [ ]
-step_unheard makes l k f withdrawn fault h = (ap Err h, refl)
+      (r.0, q ∙ as_rolled l.cells _ _ (ap (λ s. entered l.roll k (open_with s)) r.1 ∙ same_entered l.roll k (open_with n) one e))
 
 -- as many elements written over the first of a list leave none of it
 pub written_whole : {N : Type 0} (xs ys : List N) (n : ℕ) → length xs ≡ n → length ys ≡ n → take n (xs ++ drop (length xs) ys) ≡ xs

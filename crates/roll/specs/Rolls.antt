@@ -1,48 +1,41 @@
 -- What a roll says of its numbers, and what its functions find and leave.
-use Rattle.std.specs.Prelude.{◌≡◌, ℕ, ◌-◌, ◌<◌, ◌≤◌, min, false, List, map, length, get_or, is_some, Some, None, Ok, Err, Option, Result, slice_index_or}
+use Rattle.std.specs.Prelude.{◌≡◌, ℕ, ◌-◌, ◌<◌, ◌≤◌, min, true, false, List, map, length, get_or, is_some, Some, None, Ok, Err, vec_items, vec_len, Option, Result, slice_index_or}
 use Rattle.ground.specs.declared.forcing.Forcing.{Forcing}
 use Rattle.model.specs.Refusals.{would_refuse, verdict}
 use Rattle.model.specs.State.{Standing, outside, new, open_with, withdrawn, number_count, standing, entered, open_count}
-use Rattle.node.specs.Answers.{yielded}
+use Rattle.node.specs.Answers.{store, yielded}
 use Rattle.node.specs.Rules.{yield_of, after}
-use Rattle.node.specs.Stores.{Store}
 use Rattle.node.specs.declared.answer.Yield.{Yield}
+use Rattle.node.specs.declared.node.Node.{Node}
+use Rattle.places.specs.States.{State}
 use Rattle.reservoir.specs.Meaning.{Make}
 use Rattle.roll.specs.Faults.{district_refusal}
 use Rattle.roll.specs.declared.fault.DistrictFault.{DistrictFault}
 use Rattle.roll.specs.declared.fault.DistrictFault.TheVariants.{NumberOutside, NumberOpen, NumberWithdrawn, NoUnusedCell, NumberNew}
 use Rattle.roll.specs.declared.mark.Mark.{Mark}
 use Rattle.roll.specs.declared.mark.Mark.TheVariants.{New, Open, Withdrawn}
+use Rattle.roll.specs.declared.roll.Roll.{Roll}
 
 -- The standing of a number with a mark. An open number's cell has a node, so that what is said of an empty one is of no matter.
-abbrev pub standing_in : Option Store → Standing
-standing_in None = outside
-standing_in (Some n) = open_with n
+abbrev pub standing_in : {P : Type 0} → (P → List State) → Option (Node P) → Standing
+standing_in reservoirs None = outside
+standing_in reservoirs (Some n) = open_with (store reservoirs n)
 
-abbrev pub standing_of : List (Option Store) → Mark → Standing
-standing_of cells New = new
-standing_of cells (Open i) = standing_in (slice_index_or cells i None)
-standing_of cells Withdrawn = withdrawn
+abbrev pub standing_of : {P : Type 0} → (P → List State) → List (Option (Node P)) → Mark → Standing
+standing_of reservoirs cells New = new
+standing_of reservoirs cells (Open i) = standing_in reservoirs (slice_index_or cells i None)
+standing_of reservoirs cells Withdrawn = withdrawn
 
-abbrev pub standings : List (Option Store) → List Mark → List Standing
-standings cells marks = map (standing_of cells) marks
-
--- what a roll keeps: the mark of each number, and the node in each cell
-pub record Contents : Type 0 where
-  pub marks : List Mark
-  pub cells : List (Option Store)
+abbrev pub standings : {P : Type 0} → (P → List State) → List (Option (Node P)) → List Mark → List Standing
+standings reservoirs cells marks = map (standing_of reservoirs cells) marks
 
 -- the standing of each number, and how many cells there are
 pub record Rolled : Type 0 where
   pub roll : List Standing
   pub cells : ℕ
 
-abbrev pub rolled : List Mark → List (Option Store) → Rolled
-rolled marks cells = record { roll = standings cells marks; cells = length cells }
-
--- what a roll of these contents says of its numbers
-abbrev pub rolled_in : Contents → Rolled
-rolled_in c = rolled c.marks c.cells
+abbrev pub rolled : {P : Type 0} → (P → List State) → Roll P → Rolled
+rolled reservoirs r = record { roll = standings reservoirs (vec_items r.cells) r.marks; cells = vec_len r.cells }
 
 -- what every roll keeps: all numbers stand in it, and each open one has a cell
 pub record Kept (l : Rolled) : Type 0 where
@@ -60,16 +53,18 @@ pub record Marked (marks : List Mark) (k : ℕ) (m : Mark) : Type 0 where
   pub to_last : k ≤ 256
   pub is : get_or marks (k - 1) New ≡ m
 
--- why a number has no mark
-abbrev pub NotMarked : ℕ → DistrictFault → Type 0
-NotMarked k fault = (fault ≡ NumberOutside) × (1 ≤ k → k ≤ 256 → ⊥)
+-- the number k is open in the cell i, which has its node
+pub record OpenIn {P : Type 0} (r : Roll P) (k i : ℕ) : Type 0 where
+  pub marked : Marked r.marks k (Open i)
+  pub within : i < vec_len r.cells
+  pub used : is_some (slice_index_or (vec_items r.cells) i None) ≡ true
 
 -- the number k is new, and the cell i is one of the first 64 and has no node
-pub record Vacant (marks : List Mark) (cells : List (Option Store)) (k i : ℕ) : Type 0 where
-  pub marked : Marked marks k New
+pub record Vacant {P : Type 0} (r : Roll P) (k i : ℕ) : Type 0 where
+  pub marked : Marked r.marks k New
   pub usable : i < 64
-  pub within : i < length cells
-  pub unused : is_some (slice_index_or cells i None) ≡ false
+  pub within : i < vec_len r.cells
+  pub unused : is_some (slice_index_or (vec_items r.cells) i None) ≡ false
 
 -- why a number that is not open is refused
 abbrev pub NotOpen : Standing → DistrictFault → Type 0

@@ -1,12 +1,15 @@
 // Running commands in a session.
 
+ghost use Rattle.command.specs.Meanings.{Meaning};
 ghost use Rattle.model.specs.Soundness.{Sound};
+ghost use Rattle.district.specs.Answers.{district_of};
 ghost use Rattle.session.specs.Cards.{card_fault};
 ghost use Rattle.session.specs.Entries.{told};
 ghost use Rattle.session.specs.Follows.{FollowsRules, Gives};
 ghost use Rattle.session.specs.Laws.{CardFaultIsCheck, RefusedLineDropsCard};
 ghost use Rattle.session.specs.Rules.{ends, finishes};
-ghost use Rattle.session.specs.Stages.{idle, new_session, stage_of};
+ghost use Rattle.session.specs.Stages.{new_session, session_of, staged};
+ghost use Rattle.session.specs.declared.stage.Stage.TheVariants.{Idle};
 ghost use Rattle.std.specs.Prelude.{◌≡◌, Some, Ok, vec_len};
 
 use crate::entry::Entry;
@@ -23,8 +26,8 @@ use std::mem;
 impl<P: Places> Session<P> {
     // A session on a new district over its caller's node cells. Of its lines the laws hold, however reservoirs are made.
     pub fn new(cells: Vec<Option<Node<P>>>) -> Self
-        ensures starts { result ≡ new_session (vec_len cells) }
-        ensures sound { Sound P.Places.makes result.district }
+        ensures starts { session_of P.Places.reservoirs result ≡ new_session (vec_len cells) }
+        ensures sound { Sound P.Places.makes (session_of P.Places.reservoirs result).district }
         ensures refused_line_drops_card { RefusedLineDropsCard P.Places.makes }
         ensures card_fault_is_check { CardFaultIsCheck }
     {
@@ -39,7 +42,9 @@ impl<P: Places> Session<P> {
         &mut self,
         meaning: Result<Option<Command>, Malformed>,
     ) -> Result<Option<Entry>, SheetFault>
-        ensures { FollowsRules P.Places.makes E.Equipment.equipped self.old meaning (told result) self.new }
+        ensures { FollowsRules P.Places.makes E.Equipment.equipped
+            (session_of P.Places.reservoirs self.old) meaning (told result)
+            (session_of P.Places.reservoirs self.new) }
     {
         let stage = mem::replace(&mut self.stage, Stage::Idle);
         match meaning? {
@@ -51,10 +56,9 @@ impl<P: Places> Session<P> {
         }
     }
 
-    // Ends the sheet: refused where a card is half made. The second clause hands on that the district of every session is sound.
+    // Ends the sheet: refused where a card is half made.
     pub fn finish(&self) -> Result<Option<Entry>, SheetFault>
-        ensures answer { told result ≡ finishes self.now.stage }
-        ensures sound { Sound P.Places.makes self.now.district }
+        ensures { told result ≡ finishes (session_of P.Places.reservoirs self.now).stage }
     {
         match &self.stage {
             Stage::Idle => Ok(None),
@@ -69,11 +73,10 @@ impl<P: Places> Session<P> {
         stage: Stage<P>,
         command: Command,
     ) -> Result<Option<Entry>, SheetFault>
-        requires no_card { self.old.stage ≡ idle }
-        requires sound { Sound P.Places.makes self.old.district }
+        requires { self.old.stage ≡ Idle }
         ensures { FollowsRules P.Places.makes E.Equipment.equipped
-            record { district = self.old.district; stage = stage_of P.Places.reservoirs stage }
-            (Ok (Some command)) (told result) self.new }
+            (staged P.Places.reservoirs self.old.district stage) (Ok (Some command)) (told result)
+            (session_of P.Places.reservoirs self.new) }
     {
         match (stage, command) {
             (Stage::Idle, Command::Begin(number, areas)) => {
@@ -115,11 +118,10 @@ impl<P: Places> Session<P> {
 
     // Checks a card and opens its node.
     fn open(&mut self, number: u32, card: Card, reservoirs: P) -> Result<Option<Entry>, SheetFault>
-        requires no_card { self.old.stage ≡ idle }
-        requires sound { Sound P.Places.makes self.old.district }
-        ensures { Gives P.Places.makes
-            (ends P.Places.makes self.old.district number card (P.Places.reservoirs reservoirs) (card_fault card))
-            (told result) self.new }
+        requires { self.old.stage ≡ Idle }
+        ensures { Gives P.Places.makes (district_of P.Places.reservoirs self.old.district)
+            (ends P.Places.makes (district_of P.Places.reservoirs self.old.district) number card (P.Places.reservoirs reservoirs) (card_fault card)) (told result)
+            (session_of P.Places.reservoirs self.new) }
     {
         let card = card.check()?;
         let brought_in = self.district.open(number, card, reservoirs)?;

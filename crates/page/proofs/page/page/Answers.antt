@@ -11,7 +11,7 @@ pub loop-line-init : goal.loop-line-init
 loop-line-init g c =
     let reader = c.new-line-items.ensures in
     rw (c.into_iter-line-iterator.ensures.into_iter_gives, c.new-page.ensures.bytes) (
-      (starts g.E.Nodes.Places.makes g.E.Equipment.equipped _ _ _ _ reader.all_ahead reader.none_counted),
+      starts g.E.Nodes.Places.makes g.E.Equipment.equipped _ _ _ _ reader.all_ahead reader.none_counted c.new-session.ensures.sound,
       ap (λ x. x.now) reader.same_text,
       sym reader.none_counted,
     )
@@ -43,7 +43,7 @@ returns g c =
     let page = string_bytes c.loop-line.page in
     let count = c.loop-line.invariant.2 in
     let print = c.in_ok-print_answer-3.ensures ∙ ap (λ (n : ℕ). page ++ answer_line (n + 1) (told c.finish.result)) count in
-    let run = ends makes equipped _ _ _ _ _ page _ (told c.finish.result) c.loop-line.invariant.0 next.0 c.finish.ensures.answer print in
+    let run = ends makes equipped _ _ _ _ _ page _ (told c.finish.result) c.loop-line.invariant.0 next.0 c.finish.ensures print in
     record {
       too_large = λ large. elim (let none : ⊥ = omega arith in none) [ ];
       run = λ within. (run.0, run.1, ap (λ bytes. vec_items bytes) c.into_bytes-2.ensures.value ∙ run.2 ∙ ap (λ (s : Session). page_from makes equipped s 1 run.0) c.new-session.ensures.starts);

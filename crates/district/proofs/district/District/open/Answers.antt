@@ -1,37 +1,33 @@
-use Rattle.std.proofs.Common.{◌-◌, ◌^◌, min, ap, ◌∙◌, sym}
+use Rattle.std.proofs.Common.{◌-◌, ◌^◌, min, sym, ap, ◌∙◌}
 use Rattle.book.specs.Books.{book_of}
 use Rattle.card.specs.Checking.{numbers_of}
 use Rattle.model.specs.State.{open_with}
 use Rattle.node.specs.Stores.{storage}
-use Rattle.roll.specs.Rolls.{rolled_in, with_standing}
+use Rattle.roll.specs.Rolls.{rolled, with_standing}
 use Rattle.district.proofs.Follows.{opening_too_large, opening_granted}
 use Rattle.district.proofs.district.District.open.Goals as goal
 
 pub returns-then-not-has_room_for : goal.returns-then-not-has_room_for
 returns-then-not-has_room_for g c =
-    let d = c.self.inside in
-    let h = c.in_ok-vacancy.ensures.1 in
-    rw (← c.self.view_is)
-    (opening_too_large g.P.Places.makes g.met.P.Places.meanings (rolled_in d.roll) (book_of d.book) c.args.number
+    let d = c.args.self.now in
+    let h = c.in_ok-vacancy.ensures in
+    opening_too_large g.P.Places.makes g.met.P.Places.meanings (rolled g.P.Places.reservoirs d.roll) (book_of d.book) c.args.number
     (numbers_of c.args.card) (g.P.Places.reservoirs c.args.reservoirs) c.storage-volume.result.0
     (c.storage-volume.ensures ∙ ap (λ s. min (storage s) (2 ^ 64 - 1)) c.open-node.ensures.opened)
-    h.0 h.1 (sym c.if-not-has_room_for.ensures) c.self.invariant)
+    h.1.0 h.1.1
+    (sym c.if-not-has_room_for.ensures)
 
 pub returns : goal.returns
 returns g c =
-    let d = c.self.inside in
-    let h = c.in_ok-vacancy.ensures.1 in
+    let d = c.args.self.now in
+    let h = c.in_ok-vacancy.ensures in
     let card = c.args.card in
-    rw (← c.self.view_is)
-    (opening_granted g.P.Places.makes g.met.P.Places.meanings (rolled_in d.roll) (book_of d.book) c.args.number
+    opening_granted g.P.Places.makes g.met.P.Places.meanings (rolled g.P.Places.reservoirs d.roll) (book_of d.book) c.args.number
     (numbers_of card) (g.P.Places.reservoirs c.args.reservoirs) c.storage-volume.result.0
     (c.storage-volume.ensures ∙ ap (λ s. min (storage s) (2 ^ 64 - 1)) c.open-node.ensures.opened)
-    h.0 h.1
+    h.1.0 h.1.1
     (record { areas = card.areas.within; soil = card.soil.admissible; concentrations = card.concentrations.within }, g.met.P.Places.fits c.args.reservoirs)
     (sym c.if-not-has_room_for.ensures)
-    (rolled_in c.admit.new.self) (book_of c.book_opening.new.self)
-    (c.in_ok-admit.ensures.1 ∙ ap (λ s. with_standing (rolled_in d.roll) c.args.number (open_with s)) c.open-node.ensures.opened)
-    c.book_opening.ensures c.self.invariant)
-
-pub invariant_of-self-2 : goal.invariant_of-self-2
-invariant_of-self-2 g c = (returns g c).1
+    (rolled g.P.Places.reservoirs c.admit.new.self) (book_of c.book_opening.new.self)
+    (c.in_ok-admit.ensures.1 ∙ ap (λ s. with_standing (rolled g.P.Places.reservoirs d.roll) c.args.number (open_with s)) c.open-node.ensures.opened)
+    c.book_opening.ensures

@@ -9,10 +9,10 @@ overflow_sub-result g c =
 -- no more evaporates than the rain, and no more transpires than the rain and what the ground holds
 pub overflow_add-result : goal.overflow_add-result
 overflow_add-result g c =
-    let s = c.self.inside.ground in
+    let s = c.args.self.now.ground in
     let f = c.args.forcing.now in
     let e : c.hard_surface_evaporation-evaporation.result.0 ≤ 100000 = omega arith in
-    let h : c.hard.result.0 ≤ 100000000 = omega (arith, c.self.inside.areas.within.together) in
+    let h : c.hard.result.0 ≤ 100000000 = omega (arith, c.args.self.now.areas.within.together) in
     let b = (c.after-soaking.ensures.balance s.soil.numbers s.soil.admissible s.moisture.0 s.depression.0 f.numbers).ground in
     let v = ap (λ r. r.transpiration) c.after-soaking.ensures.value in
     let t : c.after-soaking.result.transpiration.0 ≤ 400000 = omega (arith, s.soil.admissible.saturation, s.soil.admissible.depression_limit, s.within, f.in_range.rain) in

@@ -8,7 +8,7 @@ invariant_of-result g c =
     let items = c.loop-cell.cell-items in
     let long : length items ≡ c.args.cells.len = omega (arith, c.loop-cell.auto.cell-items, c.deref_mut-cell-items.ensures.len) in
     let linked = linked_new items (λ k l. let h : k < c.loop-cell.cell-index = omega (arith, c.loop-cell.auto.cell-items) in c.loop-cell.invariant k h) in
-    rw (written_whole items c.args.cells.items c.args.cells.len long (omega (arith, c.args.cells.ok.0))) linked
+    rw (written_whole items c.args.cells.items c.args.cells.len long (omega (arith, c.args.cells.ok.0))) (record { linked = linked })
 
 pub loop-cell-preserved : goal.loop-cell-preserved
 loop-cell-preserved g c =

@@ -1,22 +1,11 @@
-use Rattle.std.proofs.Common.{sym, ◌∙◌, arith}
-use Rattle.std.proofs.lemmas.Result.{err_from_is_err_and}
-use Rattle.roll.proofs.Standings.{standing_open, cell_within}
+use Rattle.std.proofs.Common.{◌<◌, length, vec_items, sym, ◌∙◌, arith}
+use Rattle.roll.proofs.Standings.{standing_open}
 use Rattle.roll.proofs.roll.Roll.node.Goals as goal
-
-pub returns-in_err-cell : goal.returns-in_err-cell
-returns-in_err-cell g c =
-    let p = err_from_is_err_and c.from_residual.result c.from_residual.ensures.1 in
-    rw (p.1, p.2, ← c.self.view_is) (c.in_err-cell.ensures c.self.inside.cells.items)
-
-pub index-requires : goal.index-requires
-index-requires g c =
-    let r = c.self.inside in
-    omega (arith, r.cells.ok.0, cell_within r.marks r.cells.items c.self.invariant c.args.number c.in_ok-cell.cell c.in_ok-cell.ensures)
 
 pub returns : goal.returns
 returns g c =
-    let r = c.self.inside in
+    let r = c.args.self.now in
     let h = c.in_ok-cell.ensures in
-    rw (← c.self.view_is)
-    (standing_open r.cells.items r.marks c.args.number c.in_ok-cell.cell _ c.in-Some.node c.self.invariant.numbers h
-    (cell_within r.marks r.cells.items c.self.invariant c.args.number c.in_ok-cell.cell h) (sym c.index.ensures ∙ c.in-Some.is))
+    let l : c.in_ok-cell.cell < length (vec_items r.cells) = omega (arith, h.within, r.cells.ok.0) in
+    standing_open g.P.Places.reservoirs (vec_items r.cells) r.marks c.args.number c.in_ok-cell.cell _ c.in-Some.node
+    r.linked.numbers h.marked l (sym c.index.ensures ∙ c.in-Some.is)
