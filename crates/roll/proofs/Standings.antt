@@ -194,18 +194,15 @@ module _ {P : Type 0} (reservoirs : P → List State) (r : Roll P) (k : ℕ) (m 
       ∙ not-false _ (fails_before_first unused first_cells j None (omega (arith, length-take 64 (vec_items r.cells), r.cells.ok.0))))
 
   found_by : (o : Option ℕ) → o ≡ position unused first_cells →
-      MatchResult (ok_or o NoUnusedCell) (λ cell. Vacant r k cell × Openable (rolled reservoirs r) k)
-      (λ fault. NotVacant (rolled reservoirs r) (standing (rolled reservoirs r).roll k) fault)
-  found_by None e = not_vacant_at (rolled reservoirs r) _ new _ stands_new (refl, none_found e)
+      MatchOption o (NoCellLeft (rolled reservoirs r)) (λ cell. Vacant r k cell × Openable (rolled reservoirs r) k)
+  found_by None e = none_found e
   found_by (Some i) e = cell_found i e
 
   pub vacancy_found : (o : Option ℕ) (result : Result ℕ DistrictFault) → result ≡ ok_or o NoUnusedCell → o ≡ position unused first_cells →
       MatchResult result (λ cell. Vacant r k cell × Openable (rolled reservoirs r) k)
       (λ fault. NotVacant (rolled reservoirs r) (standing (rolled reservoirs r).roll k) fault)
   vacancy_found o result e f =
-      let Q : Result ℕ DistrictFault → Type 0 = λ y. MatchResult y (λ cell. Vacant r k cell × Openable (rolled reservoirs r) k)
-      (λ fault. NotVacant (rolled reservoirs r) (standing (rolled reservoirs r).roll k) fault) in
-      subst Q (sym e) (found_by o f)
+      ok_or_cases _ _ _ _ _ _ _ e (found_by o f) (λ cell h. h) (λ h. not_vacant_at (rolled reservoirs r) _ new _ stands_new (refl, h))
 
 -- what every roll keeps
 module _ {P : Type 0} (reservoirs : P → List State) (r : Roll P) where

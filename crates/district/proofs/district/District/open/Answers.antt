@@ -4,18 +4,8 @@ use Rattle.card.specs.Checking.{numbers_of}
 use Rattle.model.specs.State.{open_with}
 use Rattle.node.specs.Stores.{storage}
 use Rattle.roll.specs.Rolls.{rolled, with_standing}
-use Rattle.district.proofs.Follows.{opening_too_large, opening_granted}
+use Rattle.district.proofs.Follows.{opening_granted}
 use Rattle.district.proofs.district.District.open.Goals as goal
-
-pub returns-then-not-has_room_for : goal.returns-then-not-has_room_for
-returns-then-not-has_room_for g c =
-    let d = c.args.self.now in
-    let h = c.in_ok-vacancy.ensures in
-    opening_too_large g.P.Places.makes g.met.P.Places.meanings (rolled g.P.Places.reservoirs d.roll) (book_of d.book) c.args.number
-    (numbers_of c.args.card) (g.P.Places.reservoirs c.args.reservoirs) c.storage-volume.result.0
-    (c.storage-volume.ensures ∙ ap (λ s. min (storage s) (2 ^ 64 - 1)) c.open-node.ensures.opened)
-    h.1.0 h.1.1
-    (sym c.if-not-has_room_for.ensures)
 
 pub returns : goal.returns
 returns g c =

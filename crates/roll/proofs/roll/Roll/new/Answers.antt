@@ -1,5 +1,4 @@
-use Rattle.std.proofs.Common.{◌≡◌, ◌<◌, ◌≢◌, length, is_some, None, ap, ◌∙◌, arith, below_more}
-use Rattle.std.proofs.lemmas.List.{get_or-set_same, get_or-set_other}
+use Rattle.std.proofs.Common.{◌≡◌, ◌<◌, length, arith}
 use Rattle.roll.proofs.Entries.{linked_new, written_whole}
 use Rattle.roll.proofs.roll.Roll.new.Goals as goal
 
@@ -9,12 +8,3 @@ invariant_of-result g c =
     let long : length items ≡ c.args.cells.len = omega (arith, c.loop-cell.auto.cell-items, c.deref_mut-cell-items.ensures.len) in
     let linked = linked_new items (λ k l. let h : k < c.loop-cell.cell-index = omega (arith, c.loop-cell.auto.cell-items) in c.loop-cell.invariant k h) in
     rw (written_whole items c.args.cells.items c.args.cells.len long (omega (arith, c.args.cells.ok.0))) (record { linked = linked })
-
-pub loop-cell-preserved : goal.loop-cell-preserved
-loop-cell-preserved g c =
-    let items = c.loop-cell.cell-items in
-    let i = c.loop-cell.cell-index in
-    let l : i < length items = omega (arith, c.loop-cell.auto.cell-items) in
-    below_more _ _
-    (λ k h. let ne : k ≢ i = omega arith in ap is_some (get_or-set_other items i k None None ne) ∙ c.loop-cell.invariant k h)
-    (ap is_some (get_or-set_same items i None None l))
